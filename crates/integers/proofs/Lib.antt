@@ -1,0 +1,10 @@
+pub mod Booleans
+pub mod Parts
+pub mod Order
+pub mod Ranges
+pub mod Multiples
+pub mod Linear
+pub mod FloorDivision
+pub mod Lists
+pub mod Changes
+pub mod Tests
