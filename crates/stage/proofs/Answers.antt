@@ -1,0 +1,71 @@
+-- Laws of refusals in order: a call succeeds exactly when every test of its list holds.
+use mathlib.Core.Path.{_≡_, refl, ap, sym, _∙_}
+use mathlib.Core.Bool.{Bool, true, false, cond}
+use mathlib.Core.Logic.{_↔_}
+use mathlib.Core.List.{List, [], _∷_, _++_}
+use Prim.Native.Nat.{ℕ, zero, suc}
+use native.Mathlib.Omega.{arith}
+use lib.Dec.{T, ltb, eqb, eqb·suc-zero}
+use Rattle.stage.specs.Answers.{Reply, done, refused, Test, _else_, refusal, answer, Outcome, outcome}
+
+-- every test holds
+abbrev pub Holds : List Test → Type 0
+Holds [] = Unit {0}
+Holds ((b else n) ∷ l) = T b × Holds l
+
+-- no refusal has the number 0, which stands for success
+abbrev pub Numbered : List Test → Type 0
+Numbered [] = Unit {0}
+Numbered ((b else n) ∷ l) = T (ltb 0 n) × Numbered l
+
+pub holds-refusal : (l : List Test) → Holds l → refusal l ≡ 0
+holds-refusal [] h = refl
+holds-refusal ((true else n) ∷ l) h = holds-refusal l (h .1)
+holds-refusal ((false else n) ∷ l) h = absurd (h .0)
+
+pub refusal-holds : (l : List Test) → Numbered l → refusal l ≡ 0 → Holds l
+refusal-holds [] k e = tt
+refusal-holds ((true else n) ∷ l) k e = (tt, refusal-holds l (k .1) e)
+refusal-holds ((false else zero) ∷ l) k e = absurd (k .0)
+refusal-holds ((false else suc n) ∷ l) k e = absurd (omega arith)
+
+-- past tests that hold the rest decides
+pub refusal-past : (l m : List Test) → Holds l → refusal (l ++ m) ≡ refusal m
+refusal-past [] m h = refl
+refusal-past ((true else n) ∷ l) m h = refusal-past l m (h .1)
+refusal-past ((false else n) ∷ l) m h = absurd (h .0)
+
+-- the first refusal stands, whatever is tested after it
+pub refusal-first : (l m : List Test) (n : ℕ) → refusal l ≡ suc n → refusal (l ++ m) ≡ suc n
+refusal-first [] m n e = absurd (omega arith)
+refusal-first ((true else k) ∷ l) m n e = refusal-first l m n e
+refusal-first ((false else k) ∷ l) m n e = e
+
+pub holds-append : (l m : List Test) → Holds (l ++ m) ↔ (Holds l × Holds m)
+holds-append [] m = (λ h. (tt, h), λ h. h .1)
+holds-append ((b else n) ∷ l) m = (
+  λ h. let k = holds-append l m .0 (h .1) in ((h .0, k .0), k .1),
+  λ h. (h .0 .0, holds-append l m .1 (h .0 .1, h .1)),
+)
+
+module _ {A M : Type 0} (v : A) (result before : M) where
+  pub outcome-done : (l : List Test) → refusal l ≡ 0 → outcome l v result before ≡ record { reply = done v; memory = result }
+  outcome-done l e = rw e
+
+  pub outcome-refused : (l : List Test) (n : ℕ) → refusal l ≡ suc n → outcome l v result before ≡ record { reply = refused (suc n); memory = before }
+  outcome-refused l n e = rw (e, eqb·suc-zero n)
+
+  -- a call that answers `done` made no refusal
+  pub done-refusal : (l : List Test) (u : A) → answer l v ≡ done u → refusal l ≡ 0
+  done-refusal l u e = go (refusal l) e
+    where
+      go : (n : ℕ) → cond (eqb n 0) (done v) (refused n) ≡ done u → n ≡ 0
+      go zero e = refl
+      go (suc n) e = let d : refused (suc n) ≡ done u = rw (eqb·suc-zero n) at e in let z : _≡_ {A = ℕ} 0 1 = cc in absurd (omega arith)
+
+  pub outcome-iff : (l : List Test) → Numbered l → (after : M) → (outcome l v result before ≡ record { reply = done v; memory = after }) ↔ (Holds l × (result ≡ after))
+  outcome-iff l k after = (
+    λ e. let z : refusal l ≡ 0 = done-refusal l v (ap (λ (o : Outcome A M). o .reply) e) in
+        (refusal-holds l k z, ap (λ (o : Outcome A M). o .memory) (sym (outcome-done l z) ∙ e)),
+    λ h. outcome-done l (holds-refusal l (h .0)) ∙ ap (λ (m : M). record { reply = done v; memory = m }) (h .1),
+  )

@@ -1,0 +1,14 @@
+pub mod Triples
+pub mod Reversal
+pub mod Means
+pub mod StepRanges
+pub mod RangeTable
+pub mod Numbers
+pub mod Answers
+pub mod Demand3
+pub mod Logarithm
+pub mod Prediction
+pub mod Histogram
+pub mod Counting
+pub mod Winner
+pub mod Cases

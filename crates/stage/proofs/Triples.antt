@@ -1,0 +1,45 @@
+-- Laws of one thing for each plane.
+use mathlib.Core.Path.{_≡_, refl}
+use mathlib.Core.Bool.{not}
+use lib.Dec.{T}
+use Rattle.stage.specs.Planes.{Plane, C1, C2, C3, Triple, get, put, samePlane}
+
+module _ {A : Type 0} where
+  pub get-put : (p : Triple A) (c : Plane) (a : A) → get (put p c a) c ≡ a
+  get-put p C1 a = refl
+  get-put p C2 a = refl
+  get-put p C3 a = refl
+
+  pub put-put : (p : Triple A) (c : Plane) (a b : A) → put (put p c a) c b ≡ put p c b
+  put-put p C1 a b = refl
+  put-put p C2 a b = refl
+  put-put p C3 a b = refl
+
+  pub put-get : (p : Triple A) (c : Plane) → put p c (get p c) ≡ p
+  put-get p C1 = refl
+  put-get p C2 = refl
+  put-get p C3 = refl
+
+  pub get-other : (p : Triple A) (c d : Plane) (a : A) → T (not (samePlane c d)) → get (put p d a) c ≡ get p c
+  get-other p C1 C1 a h = absurd h
+  get-other p C1 C2 a h = refl
+  get-other p C1 C3 a h = refl
+  get-other p C2 C1 a h = refl
+  get-other p C2 C2 a h = absurd h
+  get-other p C2 C3 a h = refl
+  get-other p C3 C1 a h = refl
+  get-other p C3 C2 a h = refl
+  get-other p C3 C3 a h = absurd h
+
+-- what relates two triples plane by plane still does once related things are put at the same plane of both
+module _ {A B : Type 0} (R : Plane → A → B → Type 0) (p : Triple A) (q : Triple B) (h : (c : Plane) → R c (get p c) (get q c)) (a : A) (b : B) where
+  pub put-both : (d : Plane) → R d a b → (c : Plane) → R c (get (put p d a) c) (get (put q d b) c)
+  put-both C1 k C1 = k
+  put-both C1 k C2 = h C2
+  put-both C1 k C3 = h C3
+  put-both C2 k C1 = h C1
+  put-both C2 k C2 = k
+  put-both C2 k C3 = h C3
+  put-both C3 k C1 = h C1
+  put-both C3 k C2 = h C2
+  put-both C3 k C3 = k

@@ -1,0 +1,74 @@
+-- The predictor, the counted samples, and the estimate of a plane and of a picture (01, "Estimate and search").
+use mathlib.Core.Bool.{Bool, cond, _&&_}
+use mathlib.Core.List.{List, [], _∷_}
+use Prim.Native.Nat.{ℕ, zero, suc, _+_, _*_, _-_, _/_, _%_}
+use lib.Dec.{ltb, eqb}
+use lib.IntN.{ℤ, pos, _+ℤ_, _-ℤ_}
+use lib.Signed.{leZ}
+use lib.ListN.{length}
+use Rattle.integers.specs.Lists.{at}
+use Rattle.stage.specs.Planes.{Planes}
+use Rattle.stage.specs.Logarithm.{L}
+
+-- MED, from left a, above e and above-left c: the lesser of a and e if c is at least both, the greater if c is at most both,
+-- else a + e − c
+unfoldable pub med : ℤ → ℤ → ℤ → ℤ
+med a e c = cond (leZ a c && leZ e c) (cond (leZ a e) a e) (cond (leZ c a && leZ c e) (cond (leZ a e) e a) (a +ℤ e -ℤ c))
+
+-- The first row uses the left sample alone, the first column the one above alone, the first sample 0. Neighbours are always
+-- those of the whole plane, counted or not.
+unfoldable pub prediction : ℕ → List ℤ → ℕ → ℤ
+prediction w a i =
+    cond (ltb i w)
+    (cond (eqb i 0) (pos 0) (at a (i - 1)))
+    (cond (eqb (i % w) 0) (at a (i - w)) (med (at a (i - 1)) (at a (i - w)) (at a (i - w - 1))))
+
+unfoldable pub residual : ℕ → List ℤ → ℕ → ℤ
+residual w a i = at a i -ℤ prediction w a i
+
+-- A picture of t samples a plane is counted at indices 0, k, 2k and so on, k being t / 4096 rounded up; N is how many these are.
+unfoldable pub stride : ℕ → ℕ
+stride t = (t + 4095) / 4096
+
+unfoldable pub counted : ℕ → ℕ
+counted t = (t + stride t - 1) / stride t
+
+unfoldable pub countedIndex : ℕ → ℕ → ℕ
+countedIndex t j = j * stride t
+
+-- Among r 0, r 1, .. r (n − 1): how often a occurs, and how often each that occurs among the first m does, once each
+module _ {A : Type 0} (same : A → A → Bool) (r : ℕ → A) where
+  unfoldable pub occurrences : ℕ → A → ℕ
+  occurrences zero a = 0
+  occurrences (suc n) a = cond (same (r n) a) 1 0 + occurrences n a
+
+  unfoldable pub histogram : ℕ → ℕ → List ℕ
+  histogram n zero = []
+  histogram n (suc m) = cond (eqb (occurrences m (r m)) 0) (occurrences n (r m) ∷ histogram n m) (histogram n m)
+
+-- If residuals occur c1, c2, .. times: N × L(N) less the sum of c × L(c), in sixty-fourths of a bit.
+unfoldable pub total : List ℕ → ℕ
+total [] = 0
+total (c ∷ l) = c + total l
+
+unfoldable pub logSum : List ℕ → ℕ
+logSum [] = 0
+logSum (c ∷ l) = c * L c + logSum l
+
+unfoldable pub estimateOfCounts : List ℕ → ℕ
+estimateOfCounts l = total l * L (total l) - logSum l
+
+abbrev pub sameNumber : ℤ → ℤ → Bool
+sameNumber a b = leZ a b && leZ b a
+
+-- the residual at the j-th counted index of a plane of width w
+abbrev pub countedResidual : ℕ → List ℤ → ℕ → ℤ
+countedResidual w a j = residual w a (countedIndex (length a) j)
+
+unfoldable pub planeEstimate : ℕ → List ℤ → ℕ
+planeEstimate w a =
+    estimateOfCounts (histogram sameNumber (countedResidual w a) (counted (length a)) (counted (length a)))
+
+-- A picture's estimate is the sum over its finished planes.
+unfoldable pub pictureEstimate : ℕ → Planes → ℕ
+pictureEstimate w p = planeEstimate w (p .c1) + planeEstimate w (p .c2) + planeEstimate w (p .c3)

@@ -1,0 +1,15 @@
+pub mod Answers
+pub mod Planes
+pub mod Filter
+pub mod Steps
+pub mod Ranges
+pub mod Transform
+pub mod Logarithm
+pub mod Estimate
+pub mod Search
+pub mod Pixmap
+pub mod Grammar
+pub mod Cases
+pub mod Equations
+pub mod Theorems
+pub mod EstimateTheorems
