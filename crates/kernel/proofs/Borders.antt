@@ -1,0 +1,188 @@
+-- The mean at any sample, by rows of the window, and in the interior, where all nine positions are inside.
+use mathlib.Core.Path.{_≡_, refl, sym, ap, ap₂, subst, _∙_}
+use mathlib.Core.Bool.{cond}
+use mathlib.Core.List.{List}
+use Prim.Native.Nat.{ℕ, zero, suc, _+_, _*_, _-_, _/_, _%_, _≤_, _<_}
+use native.Mathlib.Omega.{arith}
+use native.Mathlib.Nat.{mul-le-mul-right, add-mul, suc-mul}
+use lib.Dec.{eqb}
+use lib.IntN.{ℤ, pos, _+ℤ_, _*ℤ_}
+use Rattle.integers.specs.Lists.{at}
+use Rattle.integers.proofs.Linear.{flat, count, eq-lin}
+use Rattle.stage.specs.Filter.{weight, weightSum, weightedSum, windowSample, roundedMean, mean}
+use Rattle.kernel.specs.Window.{neighbourSum, interiorMean, rowSum, Indicator}
+use Rattle.kernel.proofs.Windows.{about, Surroundings, window-weight, window-sample, weightSum-same, weightedSum-same}
+
+-- an indicator times one of two numbers that are the same where it is 1
+times-same : (b : ℕ) (x y : ℤ) → b ≤ 1 → (1 ≤ b → x ≡ y) → pos b *ℤ x ≡ pos b *ℤ y
+times-same zero x y l f = eq-lin (simp flat (simp count (omega arith)))
+times-same (suc b) x y l f = ap (λ (z : ℤ). pos (suc b) *ℤ z) (f (omega arith))
+
+-- ---- nine positions by rows, the centre's weight k + 1
+module _ (left right : ℕ) where
+  abbrev line : ℤ → ℤ → ℤ → ℤ
+  line x y z = pos left *ℤ x +ℤ y +ℤ pos right *ℤ z
+
+  line-times : (u : ℕ) (x y z : ℤ) → pos (u * (left * 1)) *ℤ x +ℤ pos (u * (1 * 1)) *ℤ y +ℤ pos (u * (right * 1)) *ℤ z ≡ pos u *ℤ line x y z
+  line-times u x y z = eq-lin (simp flat (simp count (omega arith)))
+
+  line-centre : (k : ℕ) (x y z : ℤ) → pos (1 * (left * 1)) *ℤ x +ℤ pos (1 * (1 * (k + 1))) *ℤ y +ℤ pos (1 * (right * 1)) *ℤ z ≡ line x y z +ℤ pos k *ℤ y
+  line-centre k x y z = eq-lin (simp flat (simp count (omega arith)))
+
+by-rows : (a b c d e f g h i : ℤ) → pos 0 +ℤ a +ℤ b +ℤ c +ℤ d +ℤ e +ℤ f +ℤ g +ℤ h +ℤ i ≡ (d +ℤ e +ℤ f) +ℤ (a +ℤ b +ℤ c) +ℤ (g +ℤ h +ℤ i)
+by-rows a b c d e f g h i = eq-lin (simp flat (simp count (omega arith)))
+
+module _ (left right above below k : ℕ) where
+  abbrev indicated : ℕ → ℕ
+  indicated n = about above below (n / 3) * (about left right (n % 3) * cond (eqb n 4) (k + 1) 1)
+
+  indicated-sum : (g : ℕ → ℤ) → weightedSum indicated g 9 ≡ line left right (g 3) (g 4) (g 5) +ℤ pos k *ℤ g 4 +ℤ pos above *ℤ line left right (g 0) (g 1) (g 2) +ℤ pos below *ℤ line left right (g 6) (g 7) (g 8)
+  indicated-sum g =
+      let t : ℕ → ℤ = λ n. pos (indicated n) *ℤ g n in
+      by-rows (t 0) (t 1) (t 2) (t 3) (t 4) (t 5) (t 6) (t 7) (t 8)
+      ∙ ap₂ _+ℤ_ (ap₂ _+ℤ_ (line-centre left right k (g 3) (g 4) (g 5)) (line-times left right above (g 0) (g 1) (g 2))) (line-times left right below (g 6) (g 7) (g 8))
+
+  indicated-weight : weightSum indicated 9 ≡ left + 1 + right + above * (left + 1 + right) + below * (left + 1 + right) + k
+  indicated-weight = omega arith
+
+-- the rows above, of and below row y
+module _ (y w : ℕ) where
+  row-above : 1 ≤ y → (y + 0 - 1) * w + w ≡ y * w
+  row-above l = let e : suc (y + 0 - 1) ≡ y = omega arith in sym (suc-mul (y + 0 - 1) w) ∙ ap (λ (n : ℕ). n * w) e
+
+  row-own : (y + 1 - 1) * w ≡ y * w
+  row-own = let e : y + 1 - 1 ≡ y = omega arith in ap (λ (n : ℕ). n * w) e
+
+  row-below : (y + 2 - 1) * w ≡ y * w + w
+  row-below = let e : y + 2 - 1 ≡ suc y = omega arith in ap (λ (n : ℕ). n * w) e ∙ suc-mul y w
+
+module _ {w h x y left right above below : ℕ} (s : Surroundings w h x y left right above below) (k : ℕ) (a : List ℤ) where
+  abbrev g : ℕ → ℤ
+  g = windowSample w a (y * w + x)
+
+  abbrev i : ℕ
+  i = y * w + x
+
+  -- the row whose centre is at b + x
+  line-row : (b : ℕ) → line left right (at a (b + (x + 0 - 1))) (at a (b + (x + 1 - 1))) (at a (b + (x + 2 - 1))) ≡ rowSum a (b + x) left right
+  line-row b =
+      let e : b + (x + 1 - 1) ≡ b + x = omega arith in
+      ap₂ _+ℤ_
+      (ap₂ _+ℤ_ (times-same left (at a (b + (x + 0 - 1))) (at a (b + x - left)) (s .on-left .most) before) (ap (at a) e))
+      (times-same right (at a (b + (x + 2 - 1))) (at a (b + x + right)) (s .on-right .most) after)
+    where
+      before : 1 ≤ left → at a (b + (x + 0 - 1)) ≡ at a (b + x - left)
+      before o = let p = s .on-left .on o in let m = s .on-left .most in let e : b + (x + 0 - 1) ≡ b + x - left = omega arith in ap (at a) e
+
+      after : 1 ≤ right → at a (b + (x + 2 - 1)) ≡ at a (b + x + right)
+      after o = let m = s .on-right .most in let e : b + (x + 2 - 1) ≡ b + x + right = omega arith in ap (at a) e
+
+  own-row : line left right (g 3) (g 4) (g 5) ≡ rowSum a i left right
+  own-row =
+      let s3 = window-sample k s 3 a in
+      let s4 = window-sample k s 4 a in
+      let s5 = window-sample k s 5 a in
+      let e : (y + 1 - 1) * w + x ≡ i = ap (λ (n : ℕ). n + x) (row-own y w) in
+      let z = line-row ((y + 1 - 1) * w) in
+      cc
+
+  above-row : 1 ≤ above → line left right (g 0) (g 1) (g 2) ≡ rowSum a (i - above * w) left right
+  above-row o =
+      let p = s .on-top .on o in
+      let s0 = window-sample k s 0 a in
+      let s1 = window-sample k s 1 a in
+      let s2 = window-sample k s 2 a in
+      let m : above ≡ 1 = omega (arith, s .on-top .most) in
+      let f = ap (λ (n : ℕ). n * w) m in
+      let e : (y + 0 - 1) * w + x ≡ i - above * w = omega (arith, row-above y w p) in
+      let z = line-row ((y + 0 - 1) * w) in
+      cc
+
+  below-row : 1 ≤ below → line left right (g 6) (g 7) (g 8) ≡ rowSum a (i + below * w) left right
+  below-row o =
+      let s6 = window-sample k s 6 a in
+      let s7 = window-sample k s 7 a in
+      let s8 = window-sample k s 8 a in
+      let m : below ≡ 1 = omega (arith, s .at-bottom .most) in
+      let f = ap (λ (n : ℕ). n * w) m in
+      let e : (y + 2 - 1) * w + x ≡ i + below * w = omega (arith, row-below y w) in
+      let z = line-row ((y + 2 - 1) * w) in
+      cc
+
+  centre-sample : g 4 ≡ at a i
+  centre-sample = let e : (y + 1 - 1) * w + (x + 1 - 1) ≡ i = omega (arith, row-own y w) in window-sample k s 4 a ∙ ap (at a) e
+
+  abbrev rows : ℤ
+  rows = rowSum a i left right +ℤ pos k *ℤ at a i +ℤ pos above *ℤ rowSum a (i - above * w) left right +ℤ pos below *ℤ rowSum a (i + below * w) left right
+
+  sum-is : weightedSum (weight w h (k + 1) i) g 9 ≡ rows
+  sum-is =
+      weightedSum-same (weight w h (k + 1) i) (indicated left right above below k) g 9 (window-weight (k + 1) s)
+      ∙ indicated-sum left right above below k g
+      ∙ ap₂ _+ℤ_
+      (ap₂ _+ℤ_ (ap₂ _+ℤ_ own-row (ap (λ (z : ℤ). pos k *ℤ z) centre-sample))
+      (times-same above (line left right (g 0) (g 1) (g 2)) (rowSum a (i - above * w) left right) (s .on-top .most) above-row))
+      (times-same below (line left right (g 6) (g 7) (g 8)) (rowSum a (i + below * w) left right) (s .at-bottom .most) below-row)
+
+  pub mean-by-rows : {centre : ℕ} → centre ≡ k + 1 → roundedMean rows (left + 1 + right + above * (left + 1 + right) + below * (left + 1 + right) + k) ≡ mean w h centre a i
+  unfolding mean
+  mean-by-rows e =
+      rw e
+      (sym (ap₂ roundedMean sum-is (weightSum-same (weight w h (k + 1) i) (indicated left right above below k) g 9 (window-weight (k + 1) s) ∙ indicated-weight left right above below k)))
+
+-- ---- the interior
+interior-sum : (w k i : ℕ) (a : List ℤ) → rowSum a i 1 1 +ℤ pos k *ℤ at a i +ℤ pos 1 *ℤ rowSum a (i - 1 * w) 1 1 +ℤ pos 1 *ℤ rowSum a (i + 1 * w) 1 1 ≡ neighbourSum w a i +ℤ pos (k + 1) *ℤ at a i
+interior-sum w k i a = let e : 1 * w ≡ w = omega arith in rw e (eq-lin (simp flat (simp count (omega arith))))
+
+indicated-one : {n m : ℕ} → n < m → Indicator n m 1
+indicated-one l = record { most = omega arith; on = λ o. l; off = λ p. omega arith }
+
+interior-mean : (w h k x y : ℕ) (a : List ℤ) → 1 ≤ x → x + 1 < w → 1 ≤ y → y + 1 < h → interiorMean w (k + 1) a (y * w + x) ≡ mean w h (k + 1) a (y * w + x)
+unfolding interiorMean
+interior-mean w h k x y a x1 x2 y1 y2 =
+    let s : Surroundings w h x y 1 1 1 1 = record { column = omega arith; row = omega arith; on-left = indicated-one x1; on-right = indicated-one x2; on-top = indicated-one y1; at-bottom = indicated-one y2 } in
+    let n : 8 + (k + 1) ≡ 1 + 1 + 1 + 1 * (1 + 1 + 1) + 1 * (1 + 1 + 1) + k = omega arith in
+    ap₂ roundedMean (sym (interior-sum w k (y * w + x) a)) n ∙ mean-by-rows s k a refl
+
+-- at the indices of row y but its first and last
+pub interior-at : (w h centre y n : ℕ) (a : List ℤ) → 1 ≤ centre → 1 ≤ y → y + 1 < h → y * w + 1 ≤ n → n + 1 < y * w + w → interiorMean w centre a n ≡ mean w h centre a n
+interior-at w h centre y n a c y1 y2 l u =
+    let e : y * w + (n - y * w) ≡ n = omega arith in
+    let f : centre - 1 + 1 ≡ centre = omega arith in
+    subst (λ (m : ℕ). interiorMean w m a n ≡ mean w h m a n) f
+    (subst (λ (i : ℕ). interiorMean w (centre - 1 + 1) a i ≡ mean w h (centre - 1 + 1) a i) e
+    (interior-mean w h (centre - 1) (n - y * w) y a (omega arith) (omega arith) y1 y2))
+
+-- ---- what the code's indices and weights stay below
+times-below : (b n m : ℕ) → b ≤ 1 → (1 ≤ b → n ≤ m) → b * n ≤ m
+times-below zero n m l f = omega arith
+times-below (suc b) n m l f = let e : suc b ≡ 1 = omega arith in rw e (omega (arith, f (omega arith)))
+
+pub record Bounds (w h x y left right above below : ℕ) : Type 0 where
+  pub first : left ≤ x
+  pub last : x + right < w
+  pub own : y * w + w ≤ w * h
+  pub over : above * w ≤ y * w
+  pub under : y * w + w + below * w ≤ w * h
+  pub weight-over : above * (left + 1 + right) ≤ 3
+  pub weight-under : below * (left + 1 + right) ≤ 3
+
+pub bounds : {w h x y left right above below : ℕ} → Surroundings w h x y left right above below → Bounds w h x y left right above below
+bounds {w} {h} {x} {y} {left} {right} {above} {below} s =
+    let a = times-below left 1 x (s .on-left .most) (s .on-left .on) in
+    let b = times-below right 1 (w - x - 1) (s .on-right .most) (λ o. let p = s .on-right .on o in omega arith) in
+    let c = mul-le-mul-right w (s .row) in
+    let d = suc-mul y w in
+    let e = times-below below w (w * h - y * w - w) (s .at-bottom .most) (λ o. let p = mul-le-mul-right w (s .at-bottom .on o) in let q = add-mul y 2 w in omega arith) in
+    let m = s .on-left .most in
+    let n = s .on-right .most in
+    let v = s .column in
+    record {
+      first = omega arith;
+      last = omega arith;
+      own = omega arith;
+      over = times-below above w (y * w) (s .on-top .most) (λ o. let p = mul-le-mul-right w (s .on-top .on o) in omega arith);
+      under = omega arith;
+      weight-over = times-below above (left + 1 + right) 3 (s .on-top .most) (λ o. omega arith);
+      weight-under = times-below below (left + 1 + right) 3 (s .at-bottom .most) (λ o. omega arith);
+    }

@@ -1,0 +1,170 @@
+// Passes over a part of a row. Each loop's pass is a literal one call above it, so that every pass has a loop of its own.
+ghost use mathlib.Core.Path.{_≡_};
+ghost use Prim.Native.Nat.{_≤_, _<_, _+_, _*_};
+ghost use lib.ListN.{length};
+ghost use Rattle.integers.specs.Lists.{AllIn, Changed};
+ghost use Rattle.stage.specs.Filter.{mean};
+ghost use Rattle.kernel.specs.Pass.{applied};
+ghost use Rattle.kernel.specs.Part.{PartIn};
+ghost use Rattle.kernel.specs.Centre.{CentreWeight};
+ghost use Rattle.kernel.specs.Window.{interiorMean, windowless};
+use crate::centre::Centre;
+use crate::pass::ADD;
+use crate::pass::ADD_HALF;
+use crate::pass::FOURFOLD_ADD;
+use crate::pass::FOURFOLD_SUBTRACT;
+use crate::pass::NEGATE;
+use crate::pass::QUARTER_ADD;
+use crate::pass::QUARTER_SUBTRACT;
+use crate::pass::SUBTRACT;
+use crate::pass::SUBTRACT_HALF;
+use crate::pass::apply;
+use crate::window::interior_mean;
+use crate::window::mean_at;
+use crate::window::windowless_value;
+
+// Filters 0 and 12: indices from .. to − 1.
+fn windowless_loop(c: &mut [i32], a: &[i32], filter: usize, pass: u32, from: usize, to: usize)
+    requires { ⌜ (from ≤ to) × (to ≤ length (now a)) × (to ≤ length (now c)) × (pass ≤ 8) ⌝ }
+    requires { ⌜ AllIn 524288 524288 (now a) ⌝ }
+    requires { ⌜ PartIn 4194304 from to (now c) ⌝ }
+    ensures { λ _. ⌜ Changed (λ i x. applied pass x (windowless filter (now (a .entry)) i)) from to (now (c .entry)) (now (c .exit)) ⌝ }
+{
+    let mut i = from;
+    while i < to {
+        let f = windowless_value(a, i, filter);
+        c[i] = apply(pass, c[i], f);
+        i += 1;
+    }
+}
+
+pub fn lift_windowless(c: &mut [i32], a: &[i32], filter: usize, pass: u32, from: usize, to: usize)
+    requires { ⌜ (from ≤ to) × (to ≤ length (now a)) × (to ≤ length (now c)) × (pass ≤ 8) ⌝ }
+    requires { ⌜ AllIn 524288 524288 (now a) ⌝ }
+    requires { ⌜ PartIn 4194304 from to (now c) ⌝ }
+    ensures { λ _. ⌜ Changed (λ i x. applied pass x (windowless filter (now (a .entry)) i)) from to (now (c .entry)) (now (c .exit)) ⌝ }
+{
+    match pass {
+        ADD => windowless_loop(c, a, filter, ADD, from, to),
+        SUBTRACT => windowless_loop(c, a, filter, SUBTRACT, from, to),
+        NEGATE => windowless_loop(c, a, filter, NEGATE, from, to),
+        ADD_HALF => windowless_loop(c, a, filter, ADD_HALF, from, to),
+        SUBTRACT_HALF => windowless_loop(c, a, filter, SUBTRACT_HALF, from, to),
+        FOURFOLD_ADD => windowless_loop(c, a, filter, FOURFOLD_ADD, from, to),
+        FOURFOLD_SUBTRACT => windowless_loop(c, a, filter, FOURFOLD_SUBTRACT, from, to),
+        QUARTER_ADD => windowless_loop(c, a, filter, QUARTER_ADD, from, to),
+        _ => windowless_loop(c, a, filter, QUARTER_SUBTRACT, from, to),
+    }
+}
+
+// Means at the interior indices from .. to − 1 of a row.
+fn interior_loop(
+    c: &mut [i32],
+    a: &[i32],
+    width: usize,
+    centre: Centre,
+    pass: u32,
+    from: usize,
+    to: usize,
+)
+    requires { ⌜ (width + 1 ≤ from) × (from ≤ to) × (to + width < length (now a)) × (to ≤ length (now c)) × (pass ≤ 8) ⌝ }
+    requires { ⌜ AllIn 524288 524288 (now a) ⌝ }
+    requires { ⌜ PartIn 4194304 from to (now c) ⌝ }
+    requires { ⌜ CentreWeight (centre .weight) (centre .exponent) (centre .reciprocal) (centre .shift) ⌝ }
+    ensures { λ _. ⌜ Changed (λ i x. applied pass x (interiorMean width (centre .weight) (now (a .entry)) i)) from to (now (c .entry)) (now (c .exit)) ⌝ }
+{
+    let mut i = from;
+    while i < to {
+        let f = interior_mean(a, width, i, centre);
+        c[i] = apply(pass, c[i], f);
+        i += 1;
+    }
+}
+
+fn lift_interior(
+    c: &mut [i32],
+    a: &[i32],
+    width: usize,
+    centre: Centre,
+    pass: u32,
+    from: usize,
+    to: usize,
+)
+    requires { ⌜ (width + 1 ≤ from) × (from ≤ to) × (to + width < length (now a)) × (to ≤ length (now c)) × (pass ≤ 8) ⌝ }
+    requires { ⌜ AllIn 524288 524288 (now a) ⌝ }
+    requires { ⌜ PartIn 4194304 from to (now c) ⌝ }
+    requires { ⌜ CentreWeight (centre .weight) (centre .exponent) (centre .reciprocal) (centre .shift) ⌝ }
+    ensures { λ _. ⌜ Changed (λ i x. applied pass x (interiorMean width (centre .weight) (now (a .entry)) i)) from to (now (c .entry)) (now (c .exit)) ⌝ }
+{
+    match pass {
+        ADD => interior_loop(c, a, width, centre, ADD, from, to),
+        SUBTRACT => interior_loop(c, a, width, centre, SUBTRACT, from, to),
+        NEGATE => interior_loop(c, a, width, centre, NEGATE, from, to),
+        ADD_HALF => interior_loop(c, a, width, centre, ADD_HALF, from, to),
+        SUBTRACT_HALF => interior_loop(c, a, width, centre, SUBTRACT_HALF, from, to),
+        FOURFOLD_ADD => interior_loop(c, a, width, centre, FOURFOLD_ADD, from, to),
+        FOURFOLD_SUBTRACT => interior_loop(c, a, width, centre, FOURFOLD_SUBTRACT, from, to),
+        QUARTER_ADD => interior_loop(c, a, width, centre, QUARTER_ADD, from, to),
+        _ => interior_loop(c, a, width, centre, QUARTER_SUBTRACT, from, to),
+    }
+}
+
+// Means at columns from .. to − 1 of row y, border or not.
+fn lift_border(
+    c: &mut [i32],
+    a: &[i32],
+    width: usize,
+    height: usize,
+    y: usize,
+    weight: u32,
+    pass: u32,
+    from: usize,
+    to: usize,
+)
+    requires { ⌜ (from ≤ to) × (to ≤ width) × (y < height) × (pass ≤ 8) ⌝ }
+    requires { ⌜ (length (now a) ≡ width * height) × (length (now c) ≡ width * height) ⌝ }
+    requires { ⌜ AllIn 524288 524288 (now a) ⌝ }
+    requires { ⌜ PartIn 4194304 (y * width + from) (y * width + to) (now c) ⌝ }
+    requires { ⌜ (1 ≤ weight) × (weight ≤ 1024) ⌝ }
+    ensures { λ _. ⌜ Changed (λ i x. applied pass x (mean width height weight (now (a .entry)) i)) (y * width + from) (y * width + to) (now (c .entry)) (now (c .exit)) ⌝ }
+{
+    let mut x = from;
+    while x < to {
+        let i = y * width + x;
+        let f = mean_at(a, width, height, x, y, weight);
+        c[i] = apply(pass, c[i], f);
+        x += 1;
+    }
+}
+
+// Means over row y.
+pub fn lift_row(
+    c: &mut [i32],
+    a: &[i32],
+    width: usize,
+    height: usize,
+    y: usize,
+    centre: Centre,
+    pass: u32,
+)
+    requires { ⌜ (y < height) × (pass ≤ 8) ⌝ }
+    requires { ⌜ (length (now a) ≡ width * height) × (length (now c) ≡ width * height) ⌝ }
+    requires { ⌜ AllIn 524288 524288 (now a) ⌝ }
+    requires { ⌜ PartIn 4194304 (y * width) (y * width + width) (now c) ⌝ }
+    requires { ⌜ CentreWeight (centre .weight) (centre .exponent) (centre .reciprocal) (centre .shift) ⌝ }
+    ensures { λ _. ⌜ Changed (λ i x. applied pass x (mean width height (centre .weight) (now (a .entry)) i)) (y * width) (y * width + width) (now (c .entry)) (now (c .exit)) ⌝ }
+{
+    let weight = centre.weight;
+    if 0 < y {
+        if y + 1 < height {
+            if 2 < width {
+                let start = y * width;
+                lift_border(c, a, width, height, y, weight, pass, 0, 1);
+                lift_interior(c, a, width, centre, pass, start + 1, start + width - 1);
+                lift_border(c, a, width, height, y, weight, pass, width - 1, width);
+                return;
+            }
+        }
+    }
+    lift_border(c, a, width, height, y, weight, pass, 0, width);
+}
