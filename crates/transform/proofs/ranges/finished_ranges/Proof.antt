@@ -1,0 +1,151 @@
+use borrow.Author.Needs.{needs}
+use native.Mathlib.Omega.{arith}
+use lib.Dec.{lit≤}
+use mathlib.Core.Path.{_≡_}
+use Rattle.stage.specs.Theorems.{rangeTable}
+use Rattle.transform.proofs.FinishedRanges.{finished-row}
+use Rattle.transform.proofs.ranges.finished_ranges.Statement.{statement}
+use Rattle.transform.proofs.ranges.finished_ranges.Tie as tie
+
+max-sample-requires : tie.Need-max-sample-requires
+max-sample-requires c κs = search needs
+
+sub-power-of-two : tie.Need-sub-power-of-two
+sub-power-of-two c = search needs
+
+power-of-two-requires : tie.Need-power-of-two-requires
+power-of-two-requires c κs = search needs
+
+sub-power-of-two-2 : tie.Need-sub-power-of-two-2
+sub-power-of-two-2 c = search needs
+
+power-of-two-requires-2 : tie.Need-power-of-two-requires-2
+power-of-two-requires-2 c κs = search needs
+
+mul-range-row : tie.Need-mul-range-row
+mul-range-row c = search needs
+
+sub-range-row : tie.Need-sub-range-row
+sub-range-row c = search needs
+
+range-row-requires : tie.Need-range-row-requires
+range-row-requires c κs = search needs
+
+mul-range-row-2 : tie.Need-mul-range-row-2
+mul-range-row-2 c = search needs
+
+sub-range-row-2 : tie.Need-sub-range-row-2
+sub-range-row-2 c = search needs
+
+mul-range-row-3 : tie.Need-mul-range-row-3
+mul-range-row-3 c = search needs
+
+sub-range-row-3 : tie.Need-sub-range-row-3
+sub-range-row-3 c = search needs
+
+mul-range-row-4 : tie.Need-mul-range-row-4
+mul-range-row-4 c = search needs
+
+sub-range-row-4 : tie.Need-sub-range-row-4
+sub-range-row-4 c = search needs
+
+mul-range-row-5 : tie.Need-mul-range-row-5
+mul-range-row-5 c = search needs
+
+sub-range-row-5 : tie.Need-sub-range-row-5
+sub-range-row-5 c = search needs
+
+range-row-requires-2 : tie.Need-range-row-requires-2
+range-row-requires-2 c κs = search needs
+
+range-row-requires-3 : tie.Need-range-row-requires-3
+range-row-requires-3 c κs = search needs
+
+sub-range-row-6 : tie.Need-sub-range-row-6
+sub-range-row-6 c = search needs
+
+mul-range-row-6 : tie.Need-mul-range-row-6
+mul-range-row-6 c = search needs
+
+sub-range-row-7 : tie.Need-sub-range-row-7
+sub-range-row-7 c = search needs
+
+mul-range-row-7 : tie.Need-mul-range-row-7
+mul-range-row-7 c = search needs
+
+sub-range-row-8 : tie.Need-sub-range-row-8
+sub-range-row-8 c = search needs
+
+mul-range-row-8 : tie.Need-mul-range-row-8
+mul-range-row-8 c = search needs
+
+sub-range-row-9 : tie.Need-sub-range-row-9
+sub-range-row-9 c = search needs
+
+range-row-requires-4 : tie.Need-range-row-requires-4
+range-row-requires-4 c κs = search needs
+
+returns : tie.Need-returns
+unfolding rangeTable
+returns c =
+    let a = c .before .before .before .before .before in
+    let s = a .args in
+    finished-row (s .transform) (s .depth) _ _ _ 0 _ (a .pre .1) (c .before .before .before .before .max-sample .ensures .0) (c .before .before .before .power-of-two .ensures .is) (c .before .before .power-of-two2 .ensures .is) (c .before .match .keys1) (lit≤ tt) (c .range-row .ensures)
+
+returns-2 : tie.Need-returns-2
+unfolding rangeTable
+returns-2 c =
+    let a = c .before .before .before .before .before in
+    let s = a .args in
+    finished-row (s .transform) (s .depth) _ _ _ 1 _ (a .pre .1) (c .before .before .before .before .max-sample .ensures .0) (c .before .before .before .power-of-two .ensures .is) (c .before .before .power-of-two2 .ensures .is) (c .before .match .keys2) (lit≤ tt) (c .range-row2 .ensures)
+
+returns-3 : tie.Need-returns-3
+unfolding rangeTable
+returns-3 c =
+    let a = c .before .before .before .before .before in
+    let s = a .args in
+    finished-row (s .transform) (s .depth) _ _ _ 2 _ (a .pre .1) (c .before .before .before .before .max-sample .ensures .0) (c .before .before .before .power-of-two .ensures .is) (c .before .before .power-of-two2 .ensures .is) (c .before .match .keys3) (lit≤ tt) (c .range-row3 .ensures)
+
+returns-4 : tie.Need-returns-4
+unfolding rangeTable
+returns-4 c =
+    let a = c .before .before .before .before .before in
+    let s = a .args in
+    let r = c .before .match .rest in
+    let last : s .transform ≡ 3 = omega (arith, a .pre, r .0 .0 .1, r .0 .1, r .1) in
+    finished-row (s .transform) (s .depth) _ _ _ 3 _ (a .pre .1) (c .before .before .before .before .max-sample .ensures .0) (c .before .before .before .power-of-two .ensures .is) (c .before .before .power-of-two2 .ensures .is) last (lit≤ tt) (c .range-row4 .ensures)
+
+pub finished-ranges-spec : {M : Type 1} → statement M
+finished-ranges-spec =
+    tie.close
+    (tie.spec
+    max-sample-requires
+    sub-power-of-two
+    power-of-two-requires
+    sub-power-of-two-2
+    power-of-two-requires-2
+    mul-range-row
+    sub-range-row
+    range-row-requires
+    mul-range-row-2
+    sub-range-row-2
+    mul-range-row-3
+    sub-range-row-3
+    mul-range-row-4
+    sub-range-row-4
+    mul-range-row-5
+    sub-range-row-5
+    range-row-requires-2
+    range-row-requires-3
+    sub-range-row-6
+    mul-range-row-6
+    sub-range-row-7
+    mul-range-row-7
+    sub-range-row-8
+    mul-range-row-8
+    sub-range-row-9
+    range-row-requires-4
+    returns
+    returns-2
+    returns-3
+    returns-4)

@@ -1,0 +1,43 @@
+use borrow.Author.Needs.{needs}
+use mathlib.Core.Path.{ap, ap₂, _∙_}
+use mathlib.Core.Bool.{_&&_}
+use native.Mathlib.Omega.{arith}
+use denote.Ref.{now}
+use Rattle.stage.specs.Planes.{Triple, triple}
+use Rattle.stage.specs.Ranges as stage
+use Rattle.transform.specs.FinishedRanges.{readRanges}
+use Rattle.transform.proofs.FinishedRanges.{Ends, read-ends}
+use Rattle.transform.proofs.ranges.in_finished_ranges.Statement.{statement}
+use Rattle.transform.proofs.ranges.in_finished_ranges.Tie as tie
+
+finished-ranges-requires : tie.Need-finished-ranges-requires
+finished-ranges-requires c κs = search needs
+
+ends : (c : tie.After-finished-ranges) → Ends (readRanges (c .finished-ranges .result))
+ends c = let a = c .before in read-ends (a .args .transform) (a .args .depth) (a .pre .2) (c .finished-ranges .result) (c .finished-ranges .ensures)
+
+all-within-requires : tie.Need-all-within-requires
+all-within-requires c κs = let e = ends c in omega arith
+
+all-within-requires-2 : tie.Need-all-within-requires-2
+all-within-requires-2 c κs = let e = ends (c .before) in omega arith
+
+all-within-requires-3 : tie.Need-all-within-requires-3
+all-within-requires-3 c κs = let e = ends (c .before .before) in omega arith
+
+returns : tie.Need-returns
+returns c =
+    let f = c .before .before .before in
+    let s = f .before .args in
+    ap₂ _&&_ (c .before .before .all-within .ensures) (ap₂ _&&_ (c .before .all-within2 .ensures) (c .all-within3 .ensures))
+    ∙ ap (λ (r : Triple stage.Range). stage.withinRanges r (triple (now (s .c1)) (now (s .c2)) (now (s .c3)))) (f .finished-ranges .ensures)
+
+pub in-finished-ranges-spec : {M : Type 1} → statement M
+in-finished-ranges-spec =
+    tie.close
+    (tie.spec
+    finished-ranges-requires
+    all-within-requires
+    all-within-requires-2
+    all-within-requires-3
+    returns)

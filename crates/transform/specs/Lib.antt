@@ -1,0 +1,4 @@
+pub mod FinishedRanges
+pub mod Passes
+pub mod Between
+pub mod Calls

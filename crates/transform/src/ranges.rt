@@ -1,0 +1,95 @@
+// Ranges of finished planes (01's table), the widest, and the tests of planes against ranges.
+ghost use mathlib.Core.Path.{_≡_};
+ghost use Prim.Native.Nat.{_+_, _≤_, max};
+ghost use Rattle.stage.specs.Planes.{triple};
+ghost use Rattle.stage.specs.Ranges.{finishedRanges, widest, withinRanges};
+ghost use Rattle.stage.specs.Transform.{isPicture};
+ghost use Rattle.stage.specs.Theorems.{rangeRow};
+ghost use Rattle.transform.specs.FinishedRanges.{readRanges};
+use crate::settings::max_sample;
+use crate::settings::power_of_two;
+
+// −below to above
+pub struct Range {
+    pub below: u32,
+    pub above: u32,
+}
+
+// of planes 1, 2 and 3
+pub struct Ranges {
+    pub c1: Range,
+    pub c2: Range,
+    pub c3: Range,
+}
+
+fn range_row(l1: u32, h1: u32, l2: u32, h2: u32, l3: u32, h3: u32) -> Ranges
+    ensures { λ r. ⌜ readRanges r ≡ rangeRow l1 h1 l2 h2 l3 h3 ⌝ }
+{
+    Ranges {
+        c1: Range {
+            below: l1,
+            above: h1,
+        },
+        c2: Range {
+            below: l2,
+            above: h2,
+        },
+        c3: Range {
+            below: l3,
+            above: h3,
+        },
+    }
+}
+
+// M = 2^b − 1, H = 2^(b−1) and q = 2^(b−2) at depth b.
+pub fn finished_ranges(transform: u32, depth: u32) -> Ranges
+    requires { ⌜ (transform ≤ 3) × (2 ≤ depth) × (depth ≤ 16) ⌝ }
+    ensures { λ r. ⌜ readRanges r ≡ finishedRanges transform depth ⌝ }
+{
+    let m = max_sample(depth);
+    let h = power_of_two(depth - 1);
+    let q = power_of_two(depth - 2);
+    match transform {
+        0 => range_row(m, m, h, 3 * h - 2, m, m),
+        1 => range_row(m, m, 3 * h - 2, 3 * h - 1, 5 * q - 1, 9 * q - 3),
+        2 => range_row(0, m, m, m, m, m),
+        _ => range_row(h - 1, 3 * h - 1, m, m, 3 * h - 1, 3 * h - 2),
+    }
+}
+
+fn larger(a: u32, b: u32) -> u32
+    ensures { λ r. ⌜ r ≡ max a b ⌝ }
+{
+    if a < b { b } else { a }
+}
+
+// D, the widest range (highest less lowest) of a transform's finished planes.
+pub fn widest(transform: u32, depth: u32) -> u32
+    requires { ⌜ (transform ≤ 3) × (2 ≤ depth) × (depth ≤ 16) ⌝ }
+    ensures { λ r. ⌜ r ≡ widest transform depth ⌝ }
+{
+    let r = finished_ranges(transform, depth);
+    larger(
+        r.c1.below + r.c1.above,
+        larger(r.c2.below + r.c2.above, r.c3.below + r.c3.above),
+    )
+}
+
+// Whether the planes hold a picture of a depth.
+pub fn is_picture(c1: &[i32], c2: &[i32], c3: &[i32], depth: u32) -> bool
+    requires { ⌜ depth ≤ 16 ⌝ }
+    ensures { λ r. ⌜ r ≡ isPicture depth (triple (now (c1 .entry)) (now (c2 .entry)) (now (c3 .entry))) ⌝ }
+{
+    integers::three_within(c1, c2, c3, 0, max_sample(depth))
+}
+
+// Whether each plane lies in its range of finished planes.
+pub fn in_finished_ranges(c1: &[i32], c2: &[i32], c3: &[i32], transform: u32, depth: u32) -> bool
+    requires { ⌜ (transform ≤ 3) × (2 ≤ depth) × (depth ≤ 16) ⌝ }
+    ensures { λ r. ⌜ r ≡ withinRanges (finishedRanges transform depth) (triple (now (c1 .entry)) (now (c2 .entry)) (now (c3 .entry))) ⌝ }
+{
+    let r = finished_ranges(transform, depth);
+    integers::all_within(c1, r.c1.below, r.c1.above)
+        & (integers::all_within(c2, r.c2.below, r.c2.above)
+            & integers::all_within(c3, r.c3.below, r.c3.above))
+}
