@@ -1,0 +1,9 @@
+pub mod Passes
+pub mod Bins
+pub mod Walk
+pub mod Estimates
+pub mod Zero
+pub mod Copies
+pub mod Refusals
+pub mod Trials
+pub mod Calls

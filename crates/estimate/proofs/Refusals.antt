@@ -1,0 +1,125 @@
+-- The refusals of both calls in their order, and what holds past them.
+use mathlib.Core.Path.{_≡_, refl, sym, ap, _∙_}
+use mathlib.Core.Bool.{Bool, cond, _&&_}
+use mathlib.Core.List.{List, [], _∷_, _++_}
+use Prim.Native.Nat.{ℕ, zero, suc, _+_, _*_, _≤_, _<_}
+use native.Mathlib.Nat.{mul-le-mul}
+use native.Mathlib.Omega.{arith}
+use lib.Dec.{T, leb, leb→le, eqb, eqb→eq}
+use Rattle.integers.proofs.Booleans.{and-iff}
+use Rattle.stage.specs.Answers.{Test, _else_, refusal, Outcome, outcome, between}
+use Rattle.stage.specs.Planes.{Triple}
+use Rattle.stage.specs.Ranges.{widest}
+use Rattle.stage.specs.Transform.{settings, allEqual}
+use Rattle.stage.specs.Search.{allAtLeast, scratchFits, scratchSettings}
+use Rattle.stage.specs.Search as stage
+use Rattle.stage.proofs.Answers.{Holds, Numbered, refusal-holds, refusal-past, refusal-first, holds-append, outcome-done, outcome-refused}
+use Rattle.estimate.specs.Calls.{left, Settings}
+use Rattle.estimate.specs.declared.Estimated.the-variants.{Done, Refused}
+
+-- ---- one test after others
+pub refused-first : (l m : List Test) (n : ℕ) → n ≡ refusal l → (n ≡ 0 → ⊥) → n ≡ refusal (l ++ m)
+refused-first l m zero e g = absurd (g refl)
+refused-first l m (suc n) e g = sym (refusal-first l m n (sym e))
+
+pub refused-last : (l : List Test) → Numbered l → refusal l ≡ 0 → (b : Bool) (k : ℕ) → refusal (l ++ (b else k) ∷ []) ≡ cond b 0 k
+refused-last l i e b k = refusal-past l ((b else k) ∷ []) (refusal-holds l i e)
+
+-- ---- a call's outcome
+module _ {M : Type 0} (l : List Test) (v : stage.Estimated) (result before : M) where
+  pub left-refused : (n : ℕ) → n ≡ refusal l → (n ≡ 0 → ⊥) → left (Refused n) before ≡ outcome l v result before
+  left-refused zero e g = absurd (g refl)
+  left-refused (suc n) e g = sym (outcome-refused v result before l n (sym e))
+
+  pub left-done : (e n : ℕ) (after : M) → refusal l ≡ 0 → e ≡ v .estimate → n ≡ v .samples → after ≡ result → left (Done e n) after ≡ outcome l v result before
+  left-done e n after z p q r = rw (p, q, r) (sym (outcome-done v result before l z))
+
+-- ---- what the tests say
+pub record SettingsPast (w h b t : ℕ) (l : Triple ℕ) : Type 0 where
+  pub settings : Settings w h b t
+  pub size1 : l .c1 ≡ w * h
+  pub size2 : l .c2 ≡ w * h
+  pub size3 : l .c3 ≡ w * h
+
+pub record ScratchPast (w h b t : ℕ) (m : Triple ℕ) (counters : ℕ) : Type 0 where
+  pub room1 : w * h ≤ m .c1
+  pub room2 : w * h ≤ m .c2
+  pub room3 : w * h ≤ m .c3
+  pub enough : 2 * widest t b < counters
+
+between-past : (low high n : ℕ) → T (between low high n) → (low ≤ n) × (n ≤ high)
+between-past low high n k = let a = and-iff (leb low n) (leb n high) .0 k in (leb→le low n (a .0), leb→le n high (a .1))
+
+module _ (w h b t : ℕ) (choices : Bool) (l : Triple ℕ) where
+  pub settings-numbered : Numbered (settings w h b t choices l)
+  settings-numbered = (tt, (tt, (tt, (tt, (tt, tt)))))
+
+  settings-hold : Holds (settings w h b t choices l) → SettingsPast w h b t l
+  settings-hold k =
+      let a = and-iff (between 1 8192 w) (between 1 8192 h) .0 (k .0) in
+      let x = between-past 1 8192 w (a .0) in
+      let y = between-past 1 8192 h (a .1) in
+      let d = between-past 2 16 b (k .1 .0) in
+      let s = and-iff (eqb (l .c1) (w * h)) (eqb (l .c2) (w * h) && eqb (l .c3) (w * h)) .0 (k .1 .1 .1 .1 .0) in
+      let u = and-iff (eqb (l .c2) (w * h)) (eqb (l .c3) (w * h)) .0 (s .1) in
+      record {
+        settings = record {
+          across = x .0;
+          narrow = x .1;
+          down = y .0;
+          low = y .1;
+          some = mul-le-mul (x .0) (y .0);
+          most = mul-le-mul (x .1) (y .1);
+          least = d .0;
+          deep = d .1;
+          known = leb→le t 3 (k .1 .1 .0);
+        };
+        size1 = eqb→eq (l .c1) (w * h) (s .0);
+        size2 = eqb→eq (l .c2) (w * h) (u .0);
+        size3 = eqb→eq (l .c3) (w * h) (u .1);
+      }
+
+  pub settings-past : refusal (settings w h b t choices l) ≡ 0 → SettingsPast w h b t l
+  settings-past e = settings-hold (refusal-holds (settings w h b t choices l) settings-numbered e)
+
+  module _ (m : Triple ℕ) (counters : ℕ) where
+    abbrev tests : List Test
+    tests = scratchSettings w h b t choices l m counters
+
+    abbrev rest : List Test
+    rest = (scratchFits (w * h) t b m counters else 9) ∷ []
+
+    pub scratch-numbered : Numbered tests
+    scratch-numbered = (tt, (tt, (tt, (tt, (tt, (tt, tt))))))
+
+    -- a setting refused, and the scratch once the settings are past
+    pub settings-refused : (n : ℕ) → n ≡ refusal (settings w h b t choices l) → (n ≡ 0 → ⊥) → n ≡ refusal tests
+    settings-refused = refused-first (settings w h b t choices l) rest
+
+    pub scratch-refused : refusal (settings w h b t choices l) ≡ 0 → (ok : Bool) → ok ≡ scratchFits (l .c1) t b m counters → refusal tests ≡ cond ok 0 9
+    scratch-refused e ok f =
+        let s = settings-past e in
+        refused-last (settings w h b t choices l) settings-numbered e (scratchFits (w * h) t b m counters) 9
+        ∙ ap (λ (n : ℕ). cond (scratchFits n t b m counters) 0 9) (sym (s .size1)) ∙ ap (λ (x : Bool). cond x 0 9) (sym f)
+
+    module _ (e : refusal tests ≡ 0) where
+      hold : Holds (settings w h b t choices l) × Holds rest
+      hold = holds-append (settings w h b t choices l) rest .0 (refusal-holds tests scratch-numbered e)
+
+      pub choices-past : T choices
+      choices-past = hold .0 .1 .1 .1 .0
+
+      pub scratch-settings-past : SettingsPast w h b t l
+      scratch-settings-past = settings-hold (hold .0)
+
+      pub scratch-past : ScratchPast w h b t m counters
+      scratch-past =
+          let a = and-iff (allAtLeast (w * h) m) (leb (2 * widest t b + 1) counters) .0 (hold .1 .0) in
+          let r = and-iff (leb (w * h) (m .c1)) (leb (w * h) (m .c2) && leb (w * h) (m .c3)) .0 (a .0) in
+          let q = and-iff (leb (w * h) (m .c2)) (leb (w * h) (m .c3)) .0 (r .1) in
+          record {
+            room1 = leb→le (w * h) (m .c1) (r .0);
+            room2 = leb→le (w * h) (m .c2) (q .0);
+            room3 = leb→le (w * h) (m .c3) (q .1);
+            enough = omega (arith, leb→le (2 * widest t b + 1) counters (a .1));
+          }
