@@ -1,0 +1,12 @@
+pub mod Booleans
+pub mod Places
+pub mod Depths
+pub mod Refusals
+pub mod Rasters
+pub mod Scans
+pub mod Filling
+pub mod Stretches
+pub mod Numbers
+pub mod Headers
+pub mod Agreement
+pub mod Cases
