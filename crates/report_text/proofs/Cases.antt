@@ -1,0 +1,10 @@
+-- The definitions compute to the texts.
+use mathlib.Core.Path.{refl}
+use Rattle.stage.specs.Pixmap.{isWhite, isDigit, endsStretch, staysInside, afterStretch, decimal, afterDigits, field, headerText, depthAmong, headerOf, rasterOf}
+use Rattle.report_text.specs.Text.{digits, numeral, separated, line, refusalLine}
+use Rattle.report_text.specs.Report.{reportOf}
+use Rattle.report_text.specs.Cases.{TextsAgree}
+
+pub texts-agree : TextsAgree
+unfolding digits numeral separated line refusalLine reportOf isWhite isDigit endsStretch staysInside afterStretch decimal afterDigits field headerText depthAmong headerOf rasterOf
+texts-agree = refl

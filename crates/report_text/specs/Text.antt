@@ -1,0 +1,55 @@
+-- Numbers and lines as text: lists of ASCII codes (01, "Pixmaps and the report").
+use mathlib.Core.Path.{_≡_}
+use mathlib.Core.Bool.{cond}
+use mathlib.Core.List.{List, [], _∷_, _++_}
+use Prim.Native.Nat.{ℕ, zero, suc, _+_, _/_, _%_}
+use lib.Dec.{ltb}
+use lib.ListN.{length}
+use lib.Seq.{sets}
+use Rattle.stage.specs.Search.{Estimated}
+
+-- the decimal digits of n, at most k + 1 of them: those of n / 10, then n % 10
+unfoldable pub digits : ℕ → ℕ → List ℕ
+digits zero n = (48 + n) ∷ []
+digits (suc k) n = cond (ltb n 10) ((48 + n) ∷ []) (digits k (n / 10) ++ (48 + n % 10) ∷ [])
+
+-- all of them: n has at most n + 1 digits
+unfoldable pub numeral : ℕ → List ℕ
+numeral n = digits n n
+
+-- numbers, the first behind the byte s, the others each behind a comma [44]
+unfoldable pub separated : ℕ → List ℕ → List ℕ
+separated s [] = []
+separated s (f ∷ l) = s ∷ numeral f ++ separated 44 l
+
+-- "transform name, filters by place, estimate in sixty-fourths, and N", blanks [32] between, and a line feed [10]
+unfoldable pub line : List ℕ → List ℕ → Estimated → List ℕ
+line name φ e = name ++ separated 32 φ ++ (32 ∷ numeral (e .estimate)) ++ (32 ∷ numeral (e .samples)) ++ 10 ∷ []
+
+-- `transform filters estimate samples`, and a line feed
+abbrev pub title : List ℕ
+title =
+    116 ∷ 114 ∷ 97 ∷ 110 ∷ 115 ∷ 102 ∷ 111 ∷ 114 ∷ 109 ∷ 32 ∷ 102 ∷ 105 ∷ 108 ∷ 116 ∷ 101 ∷ 114 ∷ 115 ∷ 32
+    ∷ 101 ∷ 115 ∷ 116 ∷ 105 ∷ 109 ∷ 97 ∷ 116 ∷ 101 ∷ 32 ∷ 115 ∷ 97 ∷ 109 ∷ 112 ∷ 108 ∷ 101 ∷ 115 ∷ 10 ∷ []
+
+-- the transforms' names
+abbrev pub rct : List ℕ
+rct = 82 ∷ 67 ∷ 84 ∷ []
+
+abbrev pub ycocgR : List ℕ
+ycocgR = 89 ∷ 67 ∷ 111 ∷ 67 ∷ 103 ∷ 45 ∷ 82 ∷ []
+
+abbrev pub rdgdb : List ℕ
+rdgdb = 82 ∷ 68 ∷ 103 ∷ 68 ∷ 98 ∷ []
+
+abbrev pub ldgeb : List ℕ
+ldgeb = 76 ∷ 68 ∷ 103 ∷ 69 ∷ 98 ∷ []
+
+-- "Any refusal prints only `refused`, a blank and its number", and a line feed
+unfoldable pub refusalLine : ℕ → List ℕ
+refusalLine n = (114 ∷ 101 ∷ 102 ∷ 117 ∷ 115 ∷ 101 ∷ 100 ∷ []) ++ (32 ∷ numeral n) ++ 10 ∷ []
+
+-- Text in which a piece was written at a place: the piece stands there, all else is as before; and the place behind it.
+pub record Wrote (before : List ℕ) (at : ℕ) (piece after : List ℕ) (end : ℕ) : Type 0 where
+  pub text-is : after ≡ sets before at piece
+  pub end-is : end ≡ at + length piece

@@ -1,0 +1,61 @@
+// The text that the report program prints (01, "Pixmaps and the report").
+mod pixmaps;
+mod searches;
+mod text;
+
+ghost use Prim.Native.Nat.{_≤_};
+ghost use Rattle.report_text.specs.Text.{Wrote};
+ghost use Rattle.report_text.specs.Report.{reportOf};
+ghost use Rattle.report_text.specs.Promises.{OutputIs};
+use libc::STDOUT_FILENO;
+use pixmap::Header;
+use pixmaps::put_pixmap;
+use text::put_refusal;
+
+fn put_report(text: &mut [u8; 256], file: &[u8]) -> usize
+    ensures { λ r. ⌜ Wrote (now (text .entry)) 0 (reportOf (now (file .entry))) (now (text .exit)) r ⌝ }
+    ensures { λ r. ⌜ r ≤ 256 ⌝ }
+{
+    if file.len() > 8192 {
+        return put_refusal(text, 9);
+    }
+    match pixmap::header(file) {
+        Header::Refused(n) => put_refusal(text, n),
+        Header::Picture {
+            width,
+            height,
+            depth,
+        } => put_pixmap(text, file, width, height, depth),
+    }
+}
+
+// What the report program prints: the first bytes of the text.
+pub struct Output {
+    pub text: [u8; 256],
+    pub length: usize,
+}
+
+// The report on a file, with zeros behind it.
+pub fn report(file: &[u8]) -> Output
+    ensures { λ r. ⌜ OutputIs (reportOf (now (file .entry))) r ⌝ }
+{
+    let mut text = [0u8; 256];
+    let length = put_report(&mut text, file);
+    Output {
+        text: text,
+        length: length,
+    }
+}
+
+// Prints the report on what a descriptor reads, of which 8,193 bytes are enough to refuse it. Answers the report's length.
+pub fn print_report(input: i32) -> usize
+    ensures { λ r. ⌜ r ≤ 256 ⌝ }
+{
+    let mut buffer = [0u8; 8193];
+    let n = io::read_full(input, &mut buffer);
+    let r = report(&buffer[..n]);
+    let text = r.text;
+    let length = r.length;
+    io::write_all(STDOUT_FILENO, &text[..length]);
+    length
+}
