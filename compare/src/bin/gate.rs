@@ -1,0 +1,213 @@
+//! Prints the lines that the programs of the gate must write, from the reference alone, to make their
+//! files `stdout` again:
+//!
+//!     cargo run --release --bin gate -- transforms >../crates/transforms/stdout
+//!     cargo run --release --bin gate -- searches >../crates/searches/stdout
+
+use compare::generator::{self, Congruential};
+use compare::reference::{self, Estimated, Scratch, Settings};
+use std::process::exit;
+
+const USAGE: &str = "\
+gate transforms      what the program `transforms` writes
+gate searches        what the program `searches` writes
+";
+
+type Planes = [Vec<i32>; 3];
+type Answer = Result<Planes, u32>;
+
+fn lent(planes: &Planes) -> [&[i32]; 3] {
+    planes.each_ref().map(Vec::as_slice)
+}
+
+fn list<T: ToString>(numbers: &[T], separator: &str) -> String {
+    let words: Vec<String> = numbers.iter().map(T::to_string).collect();
+    words.join(separator)
+}
+
+fn told(settings: Settings, filters: &[u8]) -> String {
+    let Settings { width, height, depth, transform } = settings;
+    format!("transform {transform} width {width} height {height} depth {depth} filters {}", list(filters, ","))
+}
+
+/// The planes' numbers, with a blank before each.
+fn numbers(planes: &Planes) -> String {
+    let plane = |plane: &Vec<i32>| plane.iter().map(|n| format!(" {n}")).collect::<String>();
+    planes.each_ref().map(plane).join(" /")
+}
+
+fn answered(answer: &Answer) -> String {
+    match answer {
+        Ok(_) => "done".to_string(),
+        Err(refusal) => format!("refused {refusal}"),
+    }
+}
+
+/// What the lent planes hold after the call.
+fn left(planes: &Planes, answer: &Answer) -> Planes {
+    answer.as_ref().unwrap_or(planes).clone()
+}
+
+/// A filter for each place of the transform, four past the last; n = 0 to 12 puts each filter at each place.
+fn choices(transform: u32, n: u32) -> Vec<u8> {
+    let places = if transform < reference::TRANSFORMS { reference::places(transform) } else { 4 };
+    (0..places as u32).map(|place| ((n + 3 * place) % 13) as u8).collect()
+}
+
+/// Forward and, on what that leaves, back.
+fn limit(settings: Settings, filters: &[u8], planes: Planes, short: bool) {
+    let forward = reference::forward(settings, filters, lent(&planes));
+    let finished = left(&planes, &forward);
+    let inverse = reference::inverse(settings, filters, lent(&finished));
+    let again = left(&finished, &inverse);
+    let told = told(settings, filters);
+    let (forward, inverse) = (answered(&forward), answered(&inverse));
+    if short {
+        println!("{told} forward {forward} inverse {inverse}");
+    } else {
+        let [before, finished, again] = [planes, finished, again].map(|planes| numbers(&planes));
+        println!("{told} planes{before} forward {forward}{finished} inverse {inverse}{again}");
+    }
+}
+
+fn limits() {
+    for length in [8192, 8193] {
+        let planes = [1, 2, 3].map(|sample| vec![sample; length as usize]);
+        for (width, height) in [(length, 1), (1, length)] {
+            limit(Settings { width, height, depth: 8, transform: 0 }, &[1; 4], planes.clone(), true);
+        }
+    }
+    let pixel = |width, height, depth, transform, filters: &[u8], samples: [i32; 3]| {
+        limit(Settings { width, height, depth, transform }, filters, samples.map(|sample| vec![sample]), false);
+    };
+    for depth in [1, 2, 16, 17] {
+        pixel(1, 1, depth, 0, &[0; 4], [3, 1, 2]);
+    }
+    for samples in [[255, 0, 255], [256, 0, 255], [0, 256, 0], [0, 0, -1]] {
+        pixel(1, 1, 8, 0, &[0; 4], samples);
+    }
+    for (width, height, transform, filters) in [
+        (0, 1, 0, &[0; 4][..]),
+        (1, 0, 0, &[0; 4]),
+        (2, 1, 0, &[0; 4]),
+        (1, 1, 4, &[0; 4]),
+        (1, 1, 2, &[0; 3]),
+        (1, 1, 3, &[0; 2]),
+        (1, 1, 2, &[12, 12]),
+        (1, 1, 2, &[12, 13]),
+    ] {
+        pixel(width, height, 8, transform, filters, [10, 200, 60]);
+    }
+}
+
+/// Whether the planes that a call leaves are the picture.
+fn compared(planes: &Planes, picture: &Planes) -> &'static str {
+    if planes == picture {
+        "the picture"
+    } else {
+        "another picture"
+    }
+}
+
+/// Picture `k`: there and back, then with a finished plane's middle number replaced.
+fn picture(k: u32) {
+    let (width, height) = [(1, 1), (1, 6), (7, 1), (2, 2), (3, 3), (5, 4), (4, 3)][k as usize % 7];
+    let settings = Settings { width, height, depth: 2 + k % 15, transform: k % 4 };
+    let filters = choices(settings.transform, k / 4);
+    let picture = generator::picture(width, height, settings.depth, k);
+    println!("picture {k} {}", told(settings, &filters));
+
+    let forward = reference::forward(settings, &filters, lent(&picture));
+    let finished = left(&picture, &forward);
+    println!("forward {}{}", answered(&forward), numbers(&finished));
+
+    let inverse = reference::inverse(settings, &filters, lent(&finished));
+    let back = format!("inverse {} {}", answered(&inverse), compared(&left(&finished, &inverse), &picture));
+    println!("{back}");
+
+    let plane = k % 3;
+    let number = [0, -1, 65535, i32::MIN][k as usize / 4 % 4];
+    let mut damaged = finished.clone();
+    let middle = damaged[0].len() / 2;
+    damaged[plane as usize][middle] = number;
+    print!("plane {} damaged by {number}", plane + 1);
+    let inverse = reference::inverse(settings, &filters, lent(&damaged));
+    print!(" inverse {}", answered(&inverse));
+    if let Ok(other) = &inverse {
+        let again = reference::forward(settings, &filters, lent(other));
+        assert_eq!(again.as_ref(), Ok(&damaged));
+        print!("{} forward {}", numbers(other), answered(&again));
+    }
+    println!();
+    println!("{back}");
+}
+
+fn transforms() {
+    limits();
+    (0..52).for_each(picture);
+}
+
+/// A slope with the generator's noise on it, modulo M + 1.
+fn slope(samples: u32, depth: u32, noise: u32, step: u32, seed: u32) -> Planes {
+    let mut numbers = Congruential(seed);
+    [(); 3].map(|()| (0..samples).map(|i| ((seed + i * step + numbers.next() % noise) % (1 << depth)) as i32).collect())
+}
+
+fn estimated(call: &str, filters: &[u8], answer: Result<Estimated, u32>) {
+    let answer = match answer {
+        Ok(Estimated { estimate, samples }) => format!("estimate {estimate} samples {samples}"),
+        Err(refusal) => format!("refused {refusal}"),
+    };
+    println!("{call} {} {answer}", list(filters, ","));
+}
+
+/// The estimate under `filters`, and the search, with the scratch that the program lends.
+fn search(settings: Settings, [noise, step]: [u32; 2], seed: u32, rounds: u32, planes: Planes) {
+    let Settings { width, height, depth, transform } = settings;
+    print!("transform {transform} width {width} height {height} depth {depth}");
+    println!(" noise {noise} step {step} seed {seed} rounds {rounds}");
+    let scratch = Scratch { trial: [5000; 3], counters: 1785 };
+    let filters = choices(transform, seed);
+    estimated("estimate", &filters, reference::estimate(settings, &filters, lent(&planes), scratch));
+    match reference::search(settings, rounds, filters.len(), lent(&planes), scratch) {
+        Ok(found) => estimated("search", &found.filters, Ok(found.estimated)),
+        Err(refusal) => estimated("search", &filters, Err(refusal)),
+    }
+}
+
+fn searches() {
+    let sizes = [(1, 1), (2, 1), (1, 9), (3, 3), (16, 11), (40, 30), (64, 64), (17, 241), (100, 50)];
+    let kinds = [[65536, 0], [1, 0], [2, 1], [1, 3], [9, 5]];
+    for k in 0..45 {
+        let (width, height) = sizes[k as usize % 9];
+        let settings = Settings { width, height, depth: 2 + k % 7, transform: k % 4 };
+        let [noise, step] = kinds[k as usize % 5];
+        let planes = slope(width * height, settings.depth, noise, step, k);
+        search(settings, [noise, step], k, 1 + k / 4 % 4, planes);
+    }
+    for (width, height, depth, transform, rounds) in [
+        (0, 3, 8, 0, 1),
+        (3, 3, 17, 0, 1),
+        (3, 3, 8, 4, 1),
+        (3, 4, 8, 0, 1),
+        (3, 3, 9, 1, 1),
+        (3, 3, 8, 0, 0),
+        (3, 3, 8, 0, 5),
+        (3, 3, 7, 0, 1),
+    ] {
+        let settings = Settings { width, height, depth, transform };
+        search(settings, [65536, 0], 1, rounds, slope(9, 8, 65536, 0, 1));
+    }
+}
+
+fn main() {
+    let words: Vec<String> = std::env::args().skip(1).collect();
+    match words.iter().map(String::as_str).collect::<Vec<_>>()[..] {
+        ["transforms"] => transforms(),
+        ["searches"] => searches(),
+        _ => {
+            eprint!("{USAGE}");
+            exit(2)
+        }
+    }
+}

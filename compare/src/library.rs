@@ -1,0 +1,343 @@
+//! The proved library for Rust programs: safe functions over the C functions of librulantip.a.
+//!
+//! Take this file in by path (`#[path = "…/library.rs"] mod library;`) and have the linker search
+//! the folder of librulantip.a. `include/rulantip.h` says what each parameter means.
+
+#![allow(dead_code)]
+
+use std::fmt;
+
+/// Why a call refuses. Its number is the one of the C functions.
+#[derive(Clone, Copy, Debug, PartialEq, Eq)]
+pub enum Refusal {
+    Header = 1,
+    Size = 2,
+    Maxval = 3,
+    Raster = 4,
+    Depth = 5,
+    Transform = 6,
+    Choices = 7,
+    Plane = 8,
+    Scratch = 9,
+    Rounds = 10,
+    Sample = 11,
+    Unreached = 12,
+}
+
+impl Refusal {
+    /// Every refusal, in the order of the numbers.
+    pub const ALL: [Refusal; 12] = [
+        Refusal::Header,
+        Refusal::Size,
+        Refusal::Maxval,
+        Refusal::Raster,
+        Refusal::Depth,
+        Refusal::Transform,
+        Refusal::Choices,
+        Refusal::Plane,
+        Refusal::Scratch,
+        Refusal::Rounds,
+        Refusal::Sample,
+        Refusal::Unreached,
+    ];
+
+    pub fn number(self) -> u32 {
+        self as u32
+    }
+}
+
+impl fmt::Display for Refusal {
+    fn fmt(&self, f: &mut fmt::Formatter<'_>) -> fmt::Result {
+        f.write_str(match self {
+            Refusal::Header => "the header does not have the form of P6",
+            Refusal::Size => "width or height is outside 1 to 8,192",
+            Refusal::Maxval => "maxval is not 3, 7, 15, 31, 63, 127 or 255",
+            Refusal::Raster => "other than 3 * width * height bytes follow the header",
+            Refusal::Depth => "the depth is outside 2 to 16",
+            Refusal::Transform => "the transform is above 3",
+            Refusal::Choices => "there is not one choice for each place, or a choice is above 12",
+            Refusal::Plane => "a plane's length is not width * height",
+            Refusal::Scratch => "a trial plane is short, or there are too few counters",
+            Refusal::Rounds => "the rounds are outside 1 to 4",
+            Refusal::Sample => "a sample is outside the depth",
+            Refusal::Unreached => "no picture goes to these planes",
+        })
+    }
+}
+
+impl std::error::Error for Refusal {}
+
+/// What every call on planes is told.
+#[derive(Clone, Copy, Debug)]
+pub struct Settings {
+    pub width: u32,
+    pub height: u32,
+    pub depth: u32,
+    pub transform: u32,
+}
+
+/// Scratch lent to the estimate and the search; all of it is 0 after success.
+pub struct Scratch<'a> {
+    pub trial: [&'a mut [i32]; 3],
+    pub counters: &'a mut [u32],
+}
+
+/// An estimate in sixty-fourths of a bit, and the number of samples counted in each plane.
+#[derive(Clone, Copy, Debug, PartialEq, Eq)]
+pub struct Estimated {
+    pub estimate: u32,
+    pub samples: u32,
+}
+
+/// What the header of a P6 file says, and the raster: the part of the file behind the header.
+#[derive(Clone, Copy, Debug, PartialEq, Eq)]
+pub struct Pixmap<'a> {
+    pub width: u32,
+    pub height: u32,
+    pub depth: u32,
+    pub raster: &'a [u8],
+}
+
+/// Counters that are enough for every transform at the depth, which is 2 to 16.
+pub fn counters(depth: u32) -> usize {
+    (14 << (depth - 1)) - 7
+}
+
+/// How many places the transform has, which is 0 to 3.
+pub fn places(transform: u32) -> usize {
+    [4, 4, 2, 3][transform as usize]
+}
+
+/// Changes a picture to what it goes to, in place.
+pub fn forward(settings: Settings, choices: &[u8], planes: [&mut [i32]; 3]) -> Result<(), Refusal> {
+    in_place(c::rulantip_forward, settings, choices, planes)
+}
+
+/// Changes planes to the picture that goes to them, in place.
+pub fn inverse(settings: Settings, choices: &[u8], planes: [&mut [i32]; 3]) -> Result<(), Refusal> {
+    in_place(c::rulantip_inverse, settings, choices, planes)
+}
+
+/// The estimate of a picture under the choices.
+pub fn estimate(
+    settings: Settings,
+    choices: &[u8],
+    planes: [&[i32]; 3],
+    scratch: Scratch<'_>,
+) -> Result<Estimated, Refusal> {
+    let Settings { width, height, depth, transform } = settings;
+    let [c1, c2, c3] = planes;
+    let Scratch { trial: [t1, t2, t3], counters } = scratch;
+    // SAFETY: every pointer and length is a slice's; what is written is lent as &mut.
+    #[rustfmt::skip]
+    let answer = unsafe {
+        c::rulantip_estimate(
+            width, height, depth, transform,
+            choices.as_ptr(), choices.len(),
+            c1.as_ptr(), c1.len(), c2.as_ptr(), c2.len(), c3.as_ptr(), c3.len(),
+            t1.as_mut_ptr(), t1.len(), t2.as_mut_ptr(), t2.len(), t3.as_mut_ptr(), t3.len(),
+            counters.as_mut_ptr(), counters.len(),
+        )
+    };
+    refusal(answer.refusal).map(|()| Estimated { estimate: answer.estimate, samples: answer.samples })
+}
+
+/// The search for the filters of the lowest estimate, which the choices hold after success.
+pub fn search(
+    settings: Settings,
+    rounds: u32,
+    choices: &mut [u8],
+    planes: [&[i32]; 3],
+    scratch: Scratch<'_>,
+) -> Result<Estimated, Refusal> {
+    let Settings { width, height, depth, transform } = settings;
+    let [c1, c2, c3] = planes;
+    let Scratch { trial: [t1, t2, t3], counters } = scratch;
+    // SAFETY: every pointer and length is a slice's; what is written is lent as &mut.
+    #[rustfmt::skip]
+    let answer = unsafe {
+        c::rulantip_search(
+            width, height, depth, transform, rounds,
+            choices.as_mut_ptr(), choices.len(),
+            c1.as_ptr(), c1.len(), c2.as_ptr(), c2.len(), c3.as_ptr(), c3.len(),
+            t1.as_mut_ptr(), t1.len(), t2.as_mut_ptr(), t2.len(), t3.as_mut_ptr(), t3.len(),
+            counters.as_mut_ptr(), counters.len(),
+        )
+    };
+    refusal(answer.refusal).map(|()| Estimated { estimate: answer.estimate, samples: answer.samples })
+}
+
+/// The header of a P6 file and its raster.
+pub fn pixmap(file: &[u8]) -> Result<Pixmap<'_>, Refusal> {
+    // SAFETY: pointer and length are a slice's.
+    let answer = unsafe { c::rulantip_p6_header(file.as_ptr(), file.len()) };
+    refusal(answer.refusal)?;
+    let raster = 3 * answer.width as usize * answer.height as usize;
+    Ok(Pixmap { width: answer.width, height: answer.height, depth: answer.depth, raster: &file[file.len() - raster..] })
+}
+
+/// Writes the raster of a P6 file to three planes.
+pub fn pixmap_planes(file: &[u8], planes: [&mut [i32]; 3]) -> Result<(), Refusal> {
+    let [c1, c2, c3] = planes;
+    // SAFETY: every pointer and length is a slice's; what is written is lent as &mut.
+    #[rustfmt::skip]
+    let answer = unsafe {
+        c::rulantip_p6_planes(
+            file.as_ptr(), file.len(),
+            c1.as_mut_ptr(), c1.len(), c2.as_mut_ptr(), c2.len(), c3.as_mut_ptr(), c3.len(),
+        )
+    };
+    refusal(answer)
+}
+
+fn refusal(number: u32) -> Result<(), Refusal> {
+    match number {
+        0 => Ok(()),
+        1..=12 => Err(Refusal::ALL[number as usize - 1]),
+        _ => panic!("{number} is no refusal"),
+    }
+}
+
+fn in_place(call: c::InPlace, settings: Settings, choices: &[u8], planes: [&mut [i32]; 3]) -> Result<(), Refusal> {
+    let Settings { width, height, depth, transform } = settings;
+    let [c1, c2, c3] = planes;
+    // SAFETY: every pointer and length is a slice's; what is written is lent as &mut.
+    #[rustfmt::skip]
+    let answer = unsafe {
+        call(
+            width, height, depth, transform,
+            choices.as_ptr(), choices.len(),
+            c1.as_mut_ptr(), c1.len(), c2.as_mut_ptr(), c2.len(), c3.as_mut_ptr(), c3.len(),
+        )
+    };
+    refusal(answer)
+}
+
+/// The C functions as `include/rulantip.h` declares them.
+pub mod c {
+    #[repr(C)]
+    #[derive(Clone, Copy, Debug, PartialEq, Eq)]
+    pub struct RulantipEstimated {
+        pub refusal: u32,
+        pub estimate: u32,
+        pub samples: u32,
+    }
+
+    #[repr(C)]
+    #[derive(Clone, Copy, Debug, PartialEq, Eq)]
+    pub struct RulantipPixmap {
+        pub refusal: u32,
+        pub width: u32,
+        pub height: u32,
+        pub depth: u32,
+    }
+
+    /// The type of both calls that change planes in place.
+    pub type InPlace = unsafe extern "C" fn(
+        u32,
+        u32,
+        u32,
+        u32,
+        *const u8,
+        usize,
+        *mut i32,
+        usize,
+        *mut i32,
+        usize,
+        *mut i32,
+        usize,
+    ) -> u32;
+
+    #[link(name = "rulantip", kind = "static")]
+    extern "C" {
+        pub fn rulantip_forward(
+            width: u32,
+            height: u32,
+            depth: u32,
+            transform: u32,
+            choices: *const u8,
+            choices_len: usize,
+            c1: *mut i32,
+            c1_len: usize,
+            c2: *mut i32,
+            c2_len: usize,
+            c3: *mut i32,
+            c3_len: usize,
+        ) -> u32;
+
+        pub fn rulantip_inverse(
+            width: u32,
+            height: u32,
+            depth: u32,
+            transform: u32,
+            choices: *const u8,
+            choices_len: usize,
+            c1: *mut i32,
+            c1_len: usize,
+            c2: *mut i32,
+            c2_len: usize,
+            c3: *mut i32,
+            c3_len: usize,
+        ) -> u32;
+
+        pub fn rulantip_estimate(
+            width: u32,
+            height: u32,
+            depth: u32,
+            transform: u32,
+            choices: *const u8,
+            choices_len: usize,
+            c1: *const i32,
+            c1_len: usize,
+            c2: *const i32,
+            c2_len: usize,
+            c3: *const i32,
+            c3_len: usize,
+            t1: *mut i32,
+            t1_len: usize,
+            t2: *mut i32,
+            t2_len: usize,
+            t3: *mut i32,
+            t3_len: usize,
+            counters: *mut u32,
+            counters_len: usize,
+        ) -> RulantipEstimated;
+
+        pub fn rulantip_search(
+            width: u32,
+            height: u32,
+            depth: u32,
+            transform: u32,
+            rounds: u32,
+            choices: *mut u8,
+            choices_len: usize,
+            c1: *const i32,
+            c1_len: usize,
+            c2: *const i32,
+            c2_len: usize,
+            c3: *const i32,
+            c3_len: usize,
+            t1: *mut i32,
+            t1_len: usize,
+            t2: *mut i32,
+            t2_len: usize,
+            t3: *mut i32,
+            t3_len: usize,
+            counters: *mut u32,
+            counters_len: usize,
+        ) -> RulantipEstimated;
+
+        pub fn rulantip_p6_header(file: *const u8, file_len: usize) -> RulantipPixmap;
+
+        pub fn rulantip_p6_planes(
+            file: *const u8,
+            file_len: usize,
+            c1: *mut i32,
+            c1_len: usize,
+            c2: *mut i32,
+            c2_len: usize,
+            c3: *mut i32,
+            c3_len: usize,
+        ) -> u32;
+    }
+}

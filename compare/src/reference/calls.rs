@@ -1,0 +1,200 @@
+//! The calls with their refusals, in the order in which they are tested.
+
+use super::{counters_needed, places, plane_estimate, run, undo, Plane, Planes, RefusalNumber, TRANSFORMS};
+
+/// What every call on planes is told.
+#[derive(Clone, Copy, Debug, PartialEq, Eq)]
+pub struct Settings {
+    pub width: u32,
+    pub height: u32,
+    pub depth: u32,
+    pub transform: u32,
+}
+
+/// How long the scratch is that is lent to the estimate and the search.
+#[derive(Clone, Copy, Debug)]
+pub struct Scratch {
+    pub trial: [usize; 3],
+    pub counters: usize,
+}
+
+/// An estimate in sixty-fourths of a bit, and the number of samples counted in a plane.
+#[derive(Clone, Copy, Debug, PartialEq, Eq)]
+pub struct Estimated {
+    pub estimate: u32,
+    pub samples: u32,
+}
+
+/// What a search finds.
+#[derive(Clone, Debug, PartialEq, Eq)]
+pub struct Found {
+    pub filters: Vec<u8>,
+    pub estimated: Estimated,
+}
+
+impl Settings {
+    fn samples(&self) -> usize {
+        self.width as usize * self.height as usize
+    }
+
+    /// The greatest sample, M.
+    fn greatest(&self) -> i64 {
+        (1i64 << self.depth) - 1
+    }
+
+    /// Refusals 2, 5, 6 and the part of 7 on the number of choices.
+    fn test(&self, choices: usize) -> Result<(), RefusalNumber> {
+        if !(1..=8192).contains(&self.width) || !(1..=8192).contains(&self.height) {
+            return Err(2);
+        }
+        if !(2..=16).contains(&self.depth) {
+            return Err(5);
+        }
+        if self.transform >= TRANSFORMS {
+            return Err(6);
+        }
+        if choices != places(self.transform) {
+            return Err(7);
+        }
+        Ok(())
+    }
+
+    /// The part of refusal 7 on the choices themselves.
+    fn test_choices(&self, choices: &[u8]) -> Result<(), RefusalNumber> {
+        if choices.iter().any(|&filter| filter > 12) {
+            Err(7)
+        } else {
+            Ok(())
+        }
+    }
+
+    /// Refusal 8.
+    fn test_planes(&self, planes: &[&[i32]; 3]) -> Result<(), RefusalNumber> {
+        if planes.iter().any(|plane| plane.len() != self.samples()) {
+            Err(8)
+        } else {
+            Ok(())
+        }
+    }
+
+    /// Refusal 9.
+    fn test_scratch(&self, scratch: &Scratch) -> Result<(), RefusalNumber> {
+        let planes_short = scratch.trial.iter().any(|&length| length < self.samples());
+        let counters_short = scratch.counters < counters_needed(self.transform, self.depth);
+        if planes_short || counters_short {
+            Err(9)
+        } else {
+            Ok(())
+        }
+    }
+
+    /// Whether every sample of the planes is 0 to M.
+    fn is_picture(&self, planes: &Planes) -> bool {
+        planes.iter().flatten().all(|sample| (0..=self.greatest()).contains(sample))
+    }
+
+    /// Refusal 11, or the picture in whole numbers.
+    fn picture(&self, planes: [&[i32]; 3]) -> Result<Planes, RefusalNumber> {
+        let picture = whole(planes);
+        if self.is_picture(&picture) {
+            Ok(picture)
+        } else {
+            Err(11)
+        }
+    }
+
+    fn run(&self, filters: &[u8], planes: &Planes) -> Planes {
+        run(self.transform, self.width as usize, self.height as usize, filters, planes.clone())
+    }
+
+    /// The sum of the estimates of the three finished planes.
+    fn estimate(&self, filters: &[u8], picture: &Planes) -> Estimated {
+        let finished = self.run(filters, picture);
+        let each = finished.each_ref().map(|plane| plane_estimate(plane, self.width as usize));
+        Estimated { estimate: each.iter().map(|(estimate, _)| estimate).sum(), samples: each[0].1 }
+    }
+}
+
+fn whole(planes: [&[i32]; 3]) -> Planes {
+    planes.map(|plane| plane.iter().map(|&sample| i64::from(sample)).collect())
+}
+
+fn lent(planes: Planes) -> [Vec<i32>; 3] {
+    let number = |sample: i64| i32::try_from(sample).expect("a number of 32 bits");
+    planes.map(|plane: Plane| plane.into_iter().map(number).collect())
+}
+
+/// The planes that the picture goes to. Refusals 2, 5, 6, 7, 8, 11.
+pub fn forward(settings: Settings, choices: &[u8], planes: [&[i32]; 3]) -> Result<[Vec<i32>; 3], RefusalNumber> {
+    settings.test(choices.len())?;
+    settings.test_choices(choices)?;
+    settings.test_planes(&planes)?;
+    let picture = settings.picture(planes)?;
+    Ok(lent(settings.run(choices, &picture)))
+}
+
+/// The picture that goes to the planes. Refusals 2, 5, 6, 7, 8, 12.
+pub fn inverse(settings: Settings, choices: &[u8], planes: [&[i32]; 3]) -> Result<[Vec<i32>; 3], RefusalNumber> {
+    settings.test(choices.len())?;
+    settings.test_choices(choices)?;
+    settings.test_planes(&planes)?;
+    let (width, height) = (settings.width as usize, settings.height as usize);
+    let before = undo(settings.transform, width, height, choices, whole(planes));
+    if settings.is_picture(&before) {
+        Ok(lent(before))
+    } else {
+        Err(12)
+    }
+}
+
+/// The estimate under the choices. Refusals 2, 5, 6, 7, 8, 9, 11.
+pub fn estimate(
+    settings: Settings,
+    choices: &[u8],
+    planes: [&[i32]; 3],
+    scratch: Scratch,
+) -> Result<Estimated, RefusalNumber> {
+    settings.test(choices.len())?;
+    settings.test_choices(choices)?;
+    settings.test_planes(&planes)?;
+    settings.test_scratch(&scratch)?;
+    let picture = settings.picture(planes)?;
+    Ok(settings.estimate(choices, &picture))
+}
+
+/// The filters that the search finds; of the lent choices only their number matters.
+/// Refusals 2, 5, 6, 7, 8, 9, 10, 11.
+pub fn search(
+    settings: Settings,
+    rounds: u32,
+    choices: usize,
+    planes: [&[i32]; 3],
+    scratch: Scratch,
+) -> Result<Found, RefusalNumber> {
+    settings.test(choices)?;
+    settings.test_planes(&planes)?;
+    settings.test_scratch(&scratch)?;
+    if !(1..=4).contains(&rounds) {
+        return Err(10);
+    }
+    let picture = settings.picture(planes)?;
+
+    let mut filters = vec![0u8; choices];
+    for _ in 0..rounds {
+        for place in 0..choices {
+            let mut winner = filters[place];
+            let mut lowest = settings.estimate(&filters, &picture).estimate;
+            for filter in 0..=12 {
+                let mut trial = filters.clone();
+                trial[place] = filter;
+                let estimate = settings.estimate(&trial, &picture).estimate;
+                if estimate < lowest {
+                    (winner, lowest) = (filter, estimate);
+                }
+            }
+            filters[place] = winner;
+        }
+    }
+    let estimated = settings.estimate(&filters, &picture);
+    Ok(Found { filters, estimated })
+}

@@ -1,0 +1,176 @@
+//! The papers' cases and traps, and facts that any implementation of them has.
+
+use super::*;
+
+const PIXEL: [i64; 3] = [10, 200, 60];
+const DEPTH_8: Settings = Settings { width: 1, height: 1, depth: 8, transform: 0 };
+
+fn pixel(transform: u32, filters: &[u8]) -> [i64; 3] {
+    run(transform, 1, 1, filters, PIXEL.map(|sample| vec![sample])).map(|plane| plane[0])
+}
+
+#[test]
+fn one_pixel() {
+    assert_eq!(pixel(0, &[0; 4]), [-190, 117, -140]);
+    assert_eq!(pixel(1, &[0; 4]), [-50, 165, 117]);
+    assert_eq!(pixel(2, &[0; 2]), [10, -190, 140]);
+    assert_eq!(pixel(3, &[0; 3]), [105, -190, -45]);
+    assert_eq!(pixel(2, &[12; 2]), [10, -200, -60]);
+}
+
+#[test]
+fn two_pixels() {
+    let planes = run(2, 2, 1, &[1, 1], [vec![10, 20], vec![100, 101], vec![7, 9]]);
+    assert_eq!(planes, [vec![10, 20], vec![-85, -86], vec![94, 92]]);
+}
+
+#[test]
+fn windows() {
+    let mut plane = vec![0; 9];
+    plane[4] = 9;
+    assert_eq!(filtered(&plane, 3, 3, 1), [2, 2, 2, 2, 1, 2, 2, 2, 2]);
+    assert_eq!(filtered_at(&plane, 3, 3, 2, 1, 1), 2);
+    plane[4] = -9;
+    assert_eq!(filtered_at(&plane, 3, 3, 1, 1, 0), -1);
+    // A mean below zero is rounded down, not toward zero: (2 * -4 + 2) / 4 is -1.5.
+    assert_eq!(filtered(&[-4, 0], 2, 1, 1), [-2, -2]);
+    // One neighbour: weights 1024 and 1.
+    assert_eq!(filtered(&[1000, 0], 2, 1, 11), [999, 1]);
+    assert_eq!(filtered(&[5, -7, 0], 3, 1, 12), [0; 3]);
+    assert_eq!(filtered(&[5, -7, 0], 1, 3, 0), [5, -7, 0]);
+}
+
+#[test]
+fn predictions() {
+    assert_eq!([med(10, 20, 5), med(10, 20, 25), med(10, 20, 15)], [20, 10, 15]);
+    // First row 7 9, second row 4 1: residuals 7, 9 - 7, 4 - 7, 1 - (4 + 9 - 7).
+    let plane = [7, 9, 4, 1];
+    assert_eq!([0, 1, 2, 3].map(|index| residual(&plane, 2, index)), [7, 2, -3, -5]);
+}
+
+#[test]
+fn logarithms() {
+    assert_eq!([1, 2, 3, 4096].map(logarithm), [0, 64, 101, 768]);
+    for n in 1..=4096 {
+        let close = 64.0 * (n as f64).log2();
+        assert!((close - 1.001..=close + 0.001).contains(&f64::from(logarithm(n))), "L({n})");
+    }
+}
+
+#[test]
+fn counts() {
+    // Residuals 0 0 0 1: counts 3 and 1.
+    assert_eq!(plane_estimate(&[0, 0, 0, 1], 4), (209, 4));
+    for (samples, stride, counted) in
+        [(1, 1, 1), (4095, 1, 4095), (4096, 1, 4096), (4097, 2, 2049), (8192, 2, 4096), (8193, 3, 2731)]
+    {
+        let indices: Vec<usize> = counted_indices(samples).collect();
+        assert_eq!(indices.len(), counted);
+        assert!(indices.iter().enumerate().all(|(i, &index)| index == i * stride));
+    }
+}
+
+#[test]
+fn counters() {
+    let needed = |depth| [0, 1, 2, 3].map(|transform| counters_needed(transform, depth));
+    assert_eq!(needed(8), [1021, 1785, 1021, 1531]);
+    assert_eq!(needed(16), [262_141, 458_745, 262_141, 393_211]);
+}
+
+#[test]
+fn ranges_at_depth_8() {
+    assert_eq!(ranges(0, 8), [(-255, 255), (-128, 382), (-255, 255)]);
+    assert_eq!(ranges(1, 8), [(-255, 255), (-382, 383), (-319, 573)]);
+    assert_eq!(ranges(2, 8), [(0, 255), (-255, 255), (-255, 255)]);
+    assert_eq!(ranges(3, 8), [(-127, 383), (-255, 255), (-383, 382)]);
+}
+
+#[test]
+fn planes_that_no_picture_reaches() {
+    let back = |transform, filters: &[u8], planes: [i32; 3]| {
+        let planes = planes.map(|sample| [sample]);
+        inverse(Settings { transform, ..DEPTH_8 }, filters, planes.each_ref().map(|plane| plane.as_slice()))
+    };
+    assert_eq!(back(2, &[0; 2], [0, 0, 255]), Err(12));
+    assert_eq!(back(0, &[0; 4], [255, -128, 255]), Err(12));
+    assert_eq!(back(1, &[0; 4], [-50, 165, 117]), Ok([vec![10], vec![200], vec![60]]));
+    assert_eq!(back(1, &[0; 4], [i32::MIN, i32::MAX, i32::MIN]), Err(12));
+}
+
+#[test]
+fn refusals() {
+    let call = |width, height, depth, sample: i32| {
+        let plane = vec![sample; width as usize * height as usize];
+        forward(Settings { width, height, depth, transform: 2 }, &[0; 2], [&plane, &plane, &plane]).err()
+    };
+    assert_eq!(call(8192, 1, 8, 0), None);
+    assert_eq!(call(8193, 1, 8, 0), Some(2));
+    assert_eq!([1, 2, 16, 17].map(|depth| call(1, 1, depth, 0)), [Some(5), None, None, Some(5)]);
+    assert_eq!([-1, 0, 255, 256].map(|sample| call(1, 1, 8, sample)), [Some(11), None, None, Some(11)]);
+}
+
+/// Both ways cancel on every small picture of depth 2, and the finished planes keep their ranges.
+#[test]
+fn there_and_back() {
+    for transform in 0..TRANSFORMS {
+        for filter in 0..=12 {
+            let filters = vec![filter; places(transform)];
+            for code in 0..4096i64 {
+                let sample = |place: u32| code / 4i64.pow(place) % 4;
+                let picture = [[0, 1], [2, 3], [4, 5]].map(|plane| plane.map(sample).to_vec());
+                let finished = run(transform, 2, 1, &filters, picture.clone());
+                for (plane, (low, high)) in finished.iter().zip(ranges(transform, 2)) {
+                    assert!(plane.iter().all(|sample| (low..=high).contains(sample)));
+                }
+                assert_eq!(undo(transform, 2, 1, &filters, finished), picture);
+            }
+        }
+    }
+}
+
+#[test]
+fn example_report() {
+    let text = "transform filters estimate samples\n\
+                RCT 0,0,0,0 256 2\n\
+                YCoCg-R 0,0,0,0 384 2\n\
+                RDgDb 0,0 256 2\n\
+                LDgEb 0,0,0 256 2\n";
+    assert_eq!(report(b"P6\n2 1\n255\n\x0a\x0a\x3c\x0a\x0a\x3c"), text);
+}
+
+#[test]
+fn refused_reports() {
+    let file = |header: &str, raster: usize| [header.as_bytes(), &vec![0; raster]].concat();
+    assert_eq!(report(b""), "refused 1\n");
+    assert_eq!(report(&file("P6 0 1 255 ", 0)), "refused 2\n");
+    assert_eq!(report(&file("P6 1 1 256 ", 3)), "refused 3\n");
+    assert_eq!(report(&file("P6 1 1 255 ", 4)), "refused 4\n");
+    assert_eq!(report(&file("P6 2049 1 255 ", 3 * 2049)), "refused 9\n");
+    assert_eq!(report(&file("", 8192)), "refused 1\n");
+    assert_eq!(report(&file("", 8193)), "refused 9\n");
+    assert_eq!(report(&[file("P6 1 1 3 ", 2), vec![4]].concat()), "refused 11\n");
+}
+
+#[test]
+fn headers() {
+    let size = |file: &str| pixmap_header(file.as_bytes()).map(|header| (header.width, header.height, header.depth));
+    assert_eq!(size("P6 1 1 3 abc"), Ok((1, 1, 2)));
+    assert_eq!(size("P6\t\n0001\x0b1\x0c00255\rabc"), Ok((1, 1, 8)));
+    assert_eq!(size("P6 #\n##x\r 1\n#1\n1 #\r3 abc"), Ok((1, 1, 2)));
+    assert_eq!(size("P6#\n1 1 3 abc"), Err(1));
+    assert_eq!(size("P6 1#\n1 3 abc"), Err(1));
+    assert_eq!(size("P6 1 1 3#\nabc"), Err(1));
+    assert_eq!(size("P6 1 1 3 #\nabc"), Err(4));
+    assert_eq!(size("P6 #1 1 3 abc"), Err(1));
+    assert_eq!(size("p6 1 1 3 abc"), Err(1));
+    assert_eq!(size("P6 1 1 3"), Err(1));
+    assert_eq!(size("P6 8193 1 3 "), Err(2));
+    assert_eq!(size("P6 18446744073709551617 1 3 abc"), Err(2));
+    assert_eq!(size("P6 1 1 18446744073709551619 abc"), Err(3));
+    assert_eq!(size("P6 0 1 0 "), Err(2));
+    assert_eq!(size("P6 1 1 1 abc"), Err(3));
+    assert_eq!(size("P6 1 1 511 abc"), Err(3));
+    assert_eq!(size("P6 1 1 3 abcd"), Err(4));
+    assert_eq!(pixmap_planes(b"P6 2 1 3 abcdef", [2, 2, 3]), Err(8));
+    assert_eq!(pixmap_planes(b"P6 2 1 3 abcdef", [2; 3]), Ok([vec![97, 100], vec![98, 101], vec![99, 102]]));
+}

@@ -1,0 +1,79 @@
+//! The entropy estimate of a plane: MED residuals, counted and weighed by a table of logarithms.
+
+use std::collections::BTreeMap;
+use std::sync::OnceLock;
+
+/// MED's prediction from left `a`, above `e` and above-left `c`.
+pub fn med(a: i64, e: i64, c: i64) -> i64 {
+    if c >= a && c >= e {
+        a.min(e)
+    } else if c <= a && c <= e {
+        a.max(e)
+    } else {
+        a + e - c
+    }
+}
+
+/// The sample at `index` less its prediction.
+pub fn residual(plane: &[i64], width: usize, index: usize) -> i64 {
+    let (x, y) = (index % width, index / width);
+    let prediction = match (x, y) {
+        (0, 0) => 0,
+        (_, 0) => plane[index - 1],
+        (0, _) => plane[index - width],
+        _ => med(plane[index - 1], plane[index - width], plane[index - width - 1]),
+    };
+    plane[index] - prediction
+}
+
+/// The indices that are counted in a plane of `samples` samples.
+pub fn counted_indices(samples: usize) -> impl Iterator<Item = usize> {
+    (0..samples).step_by(samples.div_ceil(4096))
+}
+
+/// A whole number in base 2^32, the least digit first.
+fn product(a: &[u32], b: &[u32]) -> Vec<u32> {
+    let mut out = vec![0u32; a.len() + b.len()];
+    for (i, &x) in a.iter().enumerate() {
+        let mut carry = 0u64;
+        for (j, &y) in b.iter().enumerate() {
+            let digit = u64::from(out[i + j]) + u64::from(x) * u64::from(y) + carry;
+            out[i + j] = digit as u32;
+            carry = digit >> 32;
+        }
+        out[i + b.len()] = carry as u32;
+    }
+    while out.len() > 1 && out[out.len() - 1] == 0 {
+        out.pop();
+    }
+    out
+}
+
+/// The greatest whole number p with 2^p not above n^64, from n^64 itself.
+fn exact_logarithm(n: u32) -> u32 {
+    let mut power = vec![n];
+    for _ in 0..6 {
+        power = product(&power, &power);
+    }
+    let top = power[power.len() - 1];
+    32 * (power.len() as u32 - 1) + top.ilog2()
+}
+
+/// L(n) for n from 1 to 4,096.
+pub fn logarithm(n: usize) -> u32 {
+    static TABLE: OnceLock<Vec<u32>> = OnceLock::new();
+    TABLE.get_or_init(|| (1..=4096).map(exact_logarithm).collect())[n - 1]
+}
+
+/// The estimate of a plane in sixty-fourths of a bit, and how many samples were counted.
+pub fn plane_estimate(plane: &[i64], width: usize) -> (u32, u32) {
+    let mut occurrences: BTreeMap<i64, usize> = BTreeMap::new();
+    let mut counted = 0;
+    for index in counted_indices(plane.len()) {
+        *occurrences.entry(residual(plane, width, index)).or_default() += 1;
+        counted += 1;
+    }
+    let weighed = |count: usize| count as u32 * logarithm(count);
+    let less: u32 = occurrences.values().map(|&count| weighed(count)).sum();
+    (weighed(counted) - less, counted as u32)
+}

@@ -1,0 +1,36 @@
+//! The 13 filters.
+
+use super::Plane;
+
+/// The filtered value at column `x`, row `y`.
+pub fn filtered_at(plane: &[i64], width: usize, height: usize, filter: u8, x: usize, y: usize) -> i64 {
+    match filter {
+        0 => plane[y * width + x],
+        1..=11 => {
+            let centre_weight = 1i64 << (filter - 1);
+            let mut sum = 0;
+            let mut weights = 0;
+            for row in y.saturating_sub(1)..=(y + 1).min(height - 1) {
+                for column in x.saturating_sub(1)..=(x + 1).min(width - 1) {
+                    let weight = if (column, row) == (x, y) { centre_weight } else { 1 };
+                    sum += weight * plane[row * width + column];
+                    weights += weight;
+                }
+            }
+            (2 * sum + weights).div_euclid(2 * weights)
+        }
+        12 => 0,
+        _ => panic!("no filter {filter}"),
+    }
+}
+
+/// The whole plane, filtered.
+pub fn filtered(plane: &[i64], width: usize, height: usize, filter: u8) -> Plane {
+    let mut out = Vec::with_capacity(plane.len());
+    for y in 0..height {
+        for x in 0..width {
+            out.push(filtered_at(plane, width, height, filter, x, y));
+        }
+    }
+    out
+}

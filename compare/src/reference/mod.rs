@@ -1,0 +1,29 @@
+//! The rules of the colour stage in plain whole numbers, written to be read, not to be fast.
+//!
+//! Every call takes what the caller lends by value or as lengths and gives the refusal's number,
+//! or what the lent memory holds afterwards. Every number is an `i64`, which nothing here exceeds:
+//! a sample is below 2^31 and no step more than doubles or triples it.
+
+mod calls;
+mod entropy;
+mod filter;
+mod pixmap;
+mod report;
+mod transform;
+
+#[cfg(test)]
+mod cases;
+
+pub use calls::{estimate, forward, inverse, search, Estimated, Found, Scratch, Settings};
+pub use entropy::{counted_indices, logarithm, med, plane_estimate, residual};
+pub use filter::{filtered, filtered_at};
+pub use pixmap::{pixmap_header, pixmap_planes, Header};
+pub use report::{report, NAMES};
+pub use transform::{counters_needed, places, ranges, run, undo, TRANSFORMS};
+
+/// A plane or three of them, in whole numbers.
+pub type Plane = Vec<i64>;
+pub type Planes = [Plane; 3];
+
+/// The number that tells why a call refuses, 1 to 12.
+pub type RefusalNumber = u32;

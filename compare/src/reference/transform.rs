@@ -1,0 +1,112 @@
+//! The four transforms, there and back, and the ranges of their finished planes.
+
+use super::{filtered, Plane, Planes};
+
+/// Transforms are numbered 0 to 3: RCT, YCoCg-R, RDgDb, LDgEb.
+pub const TRANSFORMS: u32 = 4;
+
+/// How many places the transform has.
+pub fn places(transform: u32) -> usize {
+    [4, 4, 2, 3][transform as usize]
+}
+
+/// `plane` changed sample by sample with the sample of `other` at the same index.
+fn change(plane: &mut Plane, other: &Plane, result: impl Fn(i64, i64) -> i64) {
+    for (sample, term) in plane.iter_mut().zip(other) {
+        *sample = result(*sample, *term);
+    }
+}
+
+/// The sum of two planes.
+fn sum(mut a: Plane, b: &Plane) -> Plane {
+    change(&mut a, b, |x, y| x + y);
+    a
+}
+
+fn half(n: i64) -> i64 {
+    n.div_euclid(2)
+}
+
+fn quarter(n: i64) -> i64 {
+    n.div_euclid(4)
+}
+
+/// Every step of the transform in order; `filters` has one filter for each place.
+pub fn run(transform: u32, width: usize, height: usize, filters: &[u8], planes: Planes) -> Planes {
+    let [mut c1, mut c2, mut c3] = planes;
+    let at_place = |plane: &Plane, place: usize| filtered(plane, width, height, filters[place - 1]);
+    match transform {
+        0 => {
+            change(&mut c1, &at_place(&c2, 1), |c, d| c - d);
+            change(&mut c3, &at_place(&c2, 2), |c, d| c - d);
+            change(&mut c2, &sum(at_place(&c1, 3), &at_place(&c3, 4)), |c, d| c + quarter(d));
+        }
+        1 => {
+            change(&mut c1, &at_place(&c3, 1), |c, d| c - d);
+            change(&mut c3, &at_place(&c1, 2), |c, d| c + half(d));
+            change(&mut c2, &at_place(&c3, 3), |c, d| c - d);
+            change(&mut c3, &at_place(&c2, 4), |c, d| c + half(d));
+        }
+        2 => {
+            change(&mut c3, &at_place(&c2, 1), |c, d| -c + d);
+            change(&mut c2, &at_place(&c1, 2), |c, d| -c + d);
+        }
+        3 => {
+            change(&mut c2, &at_place(&c1, 1), |c, d| -c + d);
+            change(&mut c1, &at_place(&c2, 2), |c, d| c - half(d));
+            change(&mut c3, &at_place(&c1, 3), |c, d| c - d);
+        }
+        _ => panic!("no transform {transform}"),
+    }
+    [c1, c2, c3]
+}
+
+/// The steps undone, the last one first, with the same filters.
+pub fn undo(transform: u32, width: usize, height: usize, filters: &[u8], planes: Planes) -> Planes {
+    let [mut c1, mut c2, mut c3] = planes;
+    let at_place = |plane: &Plane, place: usize| filtered(plane, width, height, filters[place - 1]);
+    match transform {
+        0 => {
+            change(&mut c2, &sum(at_place(&c1, 3), &at_place(&c3, 4)), |c, d| c - quarter(d));
+            change(&mut c3, &at_place(&c2, 2), |c, d| c + d);
+            change(&mut c1, &at_place(&c2, 1), |c, d| c + d);
+        }
+        1 => {
+            change(&mut c3, &at_place(&c2, 4), |c, d| c - half(d));
+            change(&mut c2, &at_place(&c3, 3), |c, d| c + d);
+            change(&mut c3, &at_place(&c1, 2), |c, d| c - half(d));
+            change(&mut c1, &at_place(&c3, 1), |c, d| c + d);
+        }
+        2 => {
+            change(&mut c2, &at_place(&c1, 2), |c, d| d - c);
+            change(&mut c3, &at_place(&c2, 1), |c, d| d - c);
+        }
+        3 => {
+            change(&mut c3, &at_place(&c1, 3), |c, d| c + d);
+            change(&mut c1, &at_place(&c2, 2), |c, d| c + half(d));
+            change(&mut c2, &at_place(&c1, 1), |c, d| d - c);
+        }
+        _ => panic!("no transform {transform}"),
+    }
+    [c1, c2, c3]
+}
+
+/// Lowest and highest number of each finished plane.
+pub fn ranges(transform: u32, depth: u32) -> [(i64, i64); 3] {
+    let m = (1i64 << depth) - 1;
+    let h = 1i64 << (depth - 1);
+    let q = 1i64 << (depth - 2);
+    match transform {
+        0 => [(-m, m), (-h, 3 * h - 2), (-m, m)],
+        1 => [(-m, m), (-(3 * h - 2), 3 * h - 1), (-(5 * q - 1), 9 * q - 3)],
+        2 => [(0, m), (-m, m), (-m, m)],
+        3 => [(-(h - 1), 3 * h - 1), (-m, m), (-(3 * h - 1), 3 * h - 2)],
+        _ => panic!("no transform {transform}"),
+    }
+}
+
+/// How many counters the estimate and the search need: 2 × D + 1, D being the widest range.
+pub fn counters_needed(transform: u32, depth: u32) -> usize {
+    let widest = ranges(transform, depth).iter().map(|(low, high)| high - low).max().unwrap();
+    2 * widest as usize + 1
+}

@@ -1,0 +1,148 @@
+//! Builds the example programs by their own makefiles, runs them, and holds what they print to the
+//! reference. The header is also compiled as C++.
+
+use compare::generator;
+use compare::reference::{forward, pixmap_header, pixmap_planes, places, search, Scratch, Settings, NAMES};
+use std::fmt::Write;
+use std::fs;
+use std::path::{Path, PathBuf};
+use std::process::{Command, Output};
+
+fn root() -> PathBuf {
+    Path::new(env!("CARGO_MANIFEST_DIR")).join("..")
+}
+
+/// A folder of the test's own for what it makes.
+fn folder(name: &str) -> PathBuf {
+    let folder = Path::new(env!("CARGO_TARGET_TMPDIR")).join(name);
+    fs::create_dir_all(&folder).unwrap();
+    folder
+}
+
+fn run(command: &mut Command) -> Output {
+    command.output().unwrap_or_else(|error| panic!("{command:?}: {error}"))
+}
+
+fn build(example: &str) -> PathBuf {
+    let out = folder(example);
+    let archive = fs::canonicalize(env!("RULANTIP_ARCHIVE_FOLDER")).expect("the folder of librulantip.a");
+    let made = run(Command::new("make")
+        .arg("-B")
+        .arg("-C")
+        .arg(root().join("examples").join(example))
+        .arg(format!("ARCHIVE={}", archive.display()))
+        .arg(format!("OUT={}", out.display())));
+    assert!(made.status.success(), "{}", String::from_utf8_lossy(&made.stderr));
+    out.join("roundtrip")
+}
+
+/// What an example prints for a file with no fault.
+fn expected(file: &[u8]) -> String {
+    let header = pixmap_header(file).unwrap();
+    let (width, height, depth) = (header.width, header.height, header.depth);
+    let samples = width as usize * height as usize;
+    let planes = pixmap_planes(file, [samples; 3]).unwrap();
+    let planes = planes.each_ref().map(Vec::as_slice);
+    let mut text = format!("width {width} height {height} depth {depth}\ntransform filters estimate samples\n");
+    let mut best: Option<(u32, Settings, Vec<u8>)> = None;
+    for (transform, name) in (0..4).zip(NAMES) {
+        let settings = Settings { width, height, depth, transform };
+        let scratch = Scratch { trial: [samples; 3], counters: usize::MAX };
+        let found = search(settings, 2, places(transform), planes, scratch).unwrap();
+        let filters: Vec<String> = found.filters.iter().map(u8::to_string).collect();
+        let estimate = found.estimated.estimate;
+        writeln!(text, "{name} {} {estimate} {}", filters.join(","), found.estimated.samples).unwrap();
+        if best.as_ref().is_none_or(|(lowest, ..)| estimate < *lowest) {
+            best = Some((estimate, settings, found.filters));
+        }
+    }
+    let (_, settings, filters) = best.unwrap();
+    writeln!(text, "best {}", NAMES[settings.transform as usize]).unwrap();
+    for (plane, number) in forward(settings, &filters, planes).unwrap().iter().zip(1..) {
+        let (low, high) = (plane.iter().min().unwrap(), plane.iter().max().unwrap());
+        writeln!(text, "plane {number} holds {low} to {high}").unwrap();
+    }
+    writeln!(text, "all {} samples came back", 3 * samples).unwrap();
+    text
+}
+
+fn files() -> Vec<Vec<u8>> {
+    let generated = |width, height, depth, seed| {
+        generator::pixmap(width, height, depth, &generator::picture(width, height, depth, seed))
+    };
+    // A smooth picture with noise, more samples than are counted.
+    let (width, height) = (90u32, 70u32);
+    let mut noise = generator::Congruential(7);
+    let smooth = [3, 2, 1].map(|slope| {
+        let level = |i: u32| (40 + slope * (i % width) / 2 + i / width) as i32;
+        (0..width * height).map(|i| level(i) + (noise.next() % 3) as i32).collect()
+    });
+    vec![
+        b"P6\n2 1\n255\n\x0a\x0a\x3c\x0a\x0a\x3c".to_vec(),
+        generated(1, 1, 2, 1),
+        generated(13, 7, 5, 2),
+        generated(70, 60, 8, 3),
+        generator::pixmap(width, height, 8, &smooth),
+    ]
+}
+
+fn example(name: &str) {
+    let program = build(name);
+    let picture = folder(name).join("picture.ppm");
+    for file in files() {
+        fs::write(&picture, &file).unwrap();
+        let output = run(Command::new(&program).arg(&picture));
+        assert_eq!(String::from_utf8_lossy(&output.stderr), "");
+        assert_eq!(String::from_utf8_lossy(&output.stdout), expected(&file));
+        assert!(output.status.success());
+    }
+    for (file, refusal) in [
+        (&b"P5 1 1 255 abc"[..], "refused 1, the header"),
+        (b"P6 1 0 255 ", "refused 2, width"),
+        (b"P6 1 1 1 abc", "refused 3, maxval"),
+        (b"P6 1 1 255 ab", "refused 4, other than"),
+        (b"P6 1 1 3 \x01\x02\x04", "refused 11, a sample"),
+    ] {
+        fs::write(&picture, file).unwrap();
+        let output = run(Command::new(&program).arg(&picture));
+        let said = String::from_utf8_lossy(&output.stderr).to_string();
+        assert!(said.contains(refusal), "{said}");
+        assert_eq!(output.status.code(), Some(1));
+    }
+    let output = run(Command::new(&program).arg(folder(name).join("none.ppm")));
+    assert_eq!(output.status.code(), Some(1));
+}
+
+#[test]
+fn c_example() {
+    example("c");
+}
+
+#[test]
+fn rust_example() {
+    example("rust");
+}
+
+/// The header compiles alone in C and in C++ of several standards, and its macros give what is needed.
+#[test]
+fn header_alone() {
+    let source = folder("header").join("header.c");
+    let mut text = String::from("#include \"rulantip.h\"\n#include \"rulantip.h\"\n");
+    for depth in 2..=16 {
+        let most = (0..4).map(|transform| compare::reference::counters_needed(transform, depth)).max().unwrap();
+        writeln!(text, "typedef char at_{depth}[RULANTIP_COUNTERS({depth}) == {most} ? 1 : -1];").unwrap();
+    }
+    text += "typedef char most[RULANTIP_COUNTERS(16) == RULANTIP_COUNTERS_MAX ? 1 : -1];\n";
+    fs::write(&source, text).unwrap();
+    for (compiler, language, standard) in
+        [("gcc", "c", "c99"), ("gcc", "c", "c17"), ("g++", "c++", "c++98"), ("g++", "c++", "c++17")]
+    {
+        let compiled = run(Command::new(compiler)
+            .args(["-Wall", "-Wextra", "-Werror", "-fsyntax-only", "-x", language])
+            .arg(format!("-std={standard}"))
+            .arg("-I")
+            .arg(root().join("include"))
+            .arg(&source));
+        assert!(compiled.status.success(), "{standard}: {}", String::from_utf8_lossy(&compiled.stderr));
+    }
+}

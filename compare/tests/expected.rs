@@ -1,0 +1,35 @@
+//! What the program `expected` prints, on cases of the papers.
+
+use std::io::Write;
+use std::process::{Command, Stdio};
+
+fn expected(words: &str, input: &[u8]) -> String {
+    let mut child = Command::new(env!("CARGO_BIN_EXE_expected"))
+        .args(words.split(' '))
+        .stdin(Stdio::piped())
+        .stdout(Stdio::piped())
+        .spawn()
+        .unwrap();
+    child.stdin.take().unwrap().write_all(input).unwrap();
+    let output = child.wait_with_output().unwrap();
+    assert!(output.status.success(), "{words}");
+    String::from_utf8_lossy(&output.stdout).to_string()
+}
+
+#[test]
+fn cases() {
+    let file = b"P6\n2 1\n255\n\x0a\x0a\x3c\x0a\x0a\x3c";
+    assert_eq!(expected("report -", file).lines().nth(2), Some("YCoCg-R 0,0,0,0 384 2"));
+    assert_eq!(expected("header -", file), "2 1 8\n");
+    assert_eq!(expected("header -", b"P6"), "refused 1\n");
+    assert_eq!(expected("inverse 1 1 8 2 0,0 10 -190 140", b""), "10\n200\n60\n");
+    assert_eq!(expected("inverse 1 1 8 2 0,0 0 0 255", b""), "refused 12\n");
+    assert_eq!(expected("logarithms 1 3", b""), "0\n64\n101\n");
+    // The upper halves of the first two numbers are 15470 and 18256; the digest is 110 * 31 + 80.
+    assert_eq!(expected("picture 2 1 8 0", b"").lines().next(), Some("110 80"));
+    assert_eq!(expected("forward 2 1 8 2 12,12 0", b"").lines().next(), Some("110 80"));
+    assert_eq!(expected("digest 2 1 8 2 0,0 0", b"").lines().next(), Some("3490"));
+    assert_eq!(expected("estimate 1 1 8 4 0,0 0", b""), "refused 6\n");
+    assert_eq!(expected("search 2 1 8 0 5 0", b""), "refused 10\n");
+    assert_eq!(expected("pixmap 1 1 2 0", b"").len(), "P6\n1 1\n3\n".len() + 3);
+}

@@ -1,0 +1,106 @@
+//! Lent memory that ends where memory ends, or begins where it begins: one element read or written
+//! beyond it stops the program.
+
+use crate::library::{self, Scratch, Settings};
+use crate::random::{self, each_round, Random};
+use compare::reference;
+use std::ffi::c_void;
+use std::marker::PhantomData;
+use std::mem::size_of;
+
+const PAGE: usize = 4096;
+
+extern "C" {
+    fn mmap(address: *mut c_void, length: usize, access: i32, flags: i32, file: i32, offset: i64) -> *mut c_void;
+    fn mprotect(address: *mut c_void, length: usize, access: i32) -> i32;
+    fn munmap(address: *mut c_void, length: usize) -> i32;
+}
+
+/// Memory between two pages that may not be touched, at one end of it or the other.
+struct Edge<T> {
+    map: *mut c_void,
+    bytes: usize,
+    start: usize,
+    length: usize,
+    kind: PhantomData<T>,
+}
+
+impl<T: Copy> Edge<T> {
+    fn new(content: &[T], at_end: bool) -> Edge<T> {
+        let used = (size_of_val(content)).next_multiple_of(PAGE).max(PAGE);
+        let bytes = used + 2 * PAGE;
+        // SAFETY: a new private map (flags MAP_PRIVATE | MAP_ANONYMOUS), its middle made readable and writable.
+        let map = unsafe {
+            let map = mmap(std::ptr::null_mut(), bytes, 0, 0x22, -1, 0);
+            assert_ne!(map as isize, -1);
+            assert_eq!(mprotect(map.byte_add(PAGE), used, 3), 0);
+            map
+        };
+        let start = PAGE + if at_end { used - size_of_val(content) } else { 0 };
+        assert_eq!(start % size_of::<T>(), 0);
+        let mut edge = Edge { map, bytes, start, length: content.len(), kind: PhantomData };
+        edge.slice().copy_from_slice(content);
+        edge
+    }
+
+    fn slice(&mut self) -> &mut [T] {
+        // SAFETY: within the readable and writable part of the map, aligned, zero or copied before.
+        unsafe { std::slice::from_raw_parts_mut(self.map.byte_add(self.start).cast(), self.length) }
+    }
+}
+
+impl<T> Drop for Edge<T> {
+    fn drop(&mut self) {
+        // SAFETY: the map is this value's own.
+        unsafe { munmap(self.map, self.bytes) };
+    }
+}
+
+fn planes(content: &[Vec<i32>; 3], at_end: bool) -> [Edge<i32>; 3] {
+    content.each_ref().map(|plane| Edge::new(plane, at_end))
+}
+
+fn calls(random: &mut Random, at_end: bool, origin: &str) {
+    let case = random::case(random, origin);
+    let reference::Settings { width, height, depth, transform } = case.settings;
+    let settings = Settings { width, height, depth, transform };
+    let mut choices = Edge::new(&case.choices, at_end);
+    let mut picture = planes(&case.planes, at_end);
+    library::forward(settings, choices.slice(), picture.each_mut().map(Edge::slice)).expect(origin);
+    library::inverse(settings, choices.slice(), picture.each_mut().map(Edge::slice)).expect(origin);
+    for (plane, entry) in picture.iter_mut().zip(&case.planes) {
+        assert_eq!(plane.slice(), entry, "{case}");
+    }
+    let exact = case.trial.each_ref().map(|plane| plane[..case.samples()].to_vec());
+    let mut trial = planes(&exact, at_end);
+    let mut counters = Edge::new(&case.counters[..reference::counters_needed(transform, depth)], at_end);
+    let [c1, c2, c3] = picture.each_mut().map(|plane| &*plane.slice());
+    let scratch = Scratch { trial: trial.each_mut().map(Edge::slice), counters: counters.slice() };
+    library::estimate(settings, choices.slice(), [c1, c2, c3], scratch).expect(origin);
+    if case.samples() <= 100 {
+        let scratch = Scratch { trial: trial.each_mut().map(Edge::slice), counters: counters.slice() };
+        library::search(settings, 1, choices.slice(), [c1, c2, c3], scratch).expect(origin);
+    }
+}
+
+#[test]
+fn planes_at_edges() {
+    each_round("planes_at_edges", 600, |random, origin| {
+        let at_end = random.one_in(2);
+        calls(random, at_end, origin);
+    });
+}
+
+#[test]
+fn files_at_edges() {
+    let file = b"P6 #c\n2\t1\n#\r255 abcdef";
+    for length in 0..=file.len() {
+        for at_end in [true, false] {
+            let mut lent = Edge::new(&file[..length], at_end);
+            let mut picture = planes(&[vec![0; 2], vec![0; 2], vec![0; 2]], at_end);
+            let header = library::pixmap(lent.slice()).is_ok();
+            let planes = library::pixmap_planes(lent.slice(), picture.each_mut().map(Edge::slice)).is_ok();
+            assert_eq!([header, planes], [length == file.len(); 2]);
+        }
+    }
+}

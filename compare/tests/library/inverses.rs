@@ -1,0 +1,114 @@
+//! The inverse on planes of every kind: reached by a picture, almost, and far from it.
+
+use crate::random::{self, each_round, Random};
+use crate::same::Case;
+use compare::reference::{ranges, Settings, TRANSFORMS};
+
+/// A case whose planes some picture goes to.
+fn reached(random: &mut Random, origin: &str) -> Case {
+    let case = random::case(random, origin);
+    Case { planes: case.forward().1, ..case }
+}
+
+/// A random sample of a case's planes.
+fn sample<'a>(random: &mut Random, case: &'a mut Case) -> &'a mut i32 {
+    let plane = &mut case.planes[random.below(3)];
+    let index = random.below(plane.len());
+    &mut plane[index]
+}
+
+#[test]
+fn one_sample_off_by_one() {
+    let mut accepted = 0;
+    each_round("one_sample_off_by_one", 8000, |random, origin| {
+        let mut case = reached(random, origin);
+        *sample(random, &mut case) += random.one_of(&[-1, 1]);
+        accepted += u32::from(case.inverse().0 == 0);
+    });
+    eprintln!("{accepted} accepted");
+}
+
+#[test]
+fn some_samples_changed() {
+    each_round("some_samples_changed", 3000, |random, origin| {
+        let mut case = reached(random, origin);
+        for _ in 0..=random.below(5) {
+            let by = random.one_of(&[1, 2, 3, 50, 1 << 16]);
+            *sample(random, &mut case) += random.between(-by, by) as i32;
+        }
+        case.inverse();
+    });
+}
+
+/// One sample, or all, at the ends of the 32-bit range or near them.
+#[test]
+fn ends_of_the_number_range() {
+    const ENDS: [i32; 8] = [i32::MIN, i32::MIN + 1, i32::MAX, i32::MAX - 1, 1 << 30, -(1 << 30), 1 << 22, -(1 << 22)];
+    each_round("ends_of_the_number_range", 3000, |random, origin| {
+        let mut case = reached(random, origin);
+        if random.one_in(4) {
+            let ends = [random.one_of(&ENDS), random.one_of(&ENDS), random.one_of(&ENDS)];
+            case.planes = ends.map(|end| vec![end; case.samples()]);
+        } else {
+            *sample(random, &mut case) = random.one_of(&ENDS);
+        }
+        assert_eq!(case.inverse().0, 12, "{case}");
+    });
+}
+
+/// Planes of numbers within their ranges, at their ends, one beyond, and far outside.
+#[test]
+fn planes_by_range() {
+    each_round("planes_by_range", 6000, |random, origin| {
+        let mut case = random::case(random, origin);
+        let beyond = random.one_of(&[0, 0, 1, 1000, 1 << 20]);
+        let at_ends = random.one_in(3);
+        for (plane, (low, high)) in case.planes.iter_mut().zip(ranges(case.settings.transform, case.settings.depth)) {
+            let (low, high) = (low - beyond, high + beyond);
+            for sample in plane {
+                let number = if at_ends { random.one_of(&[low, high]) } else { random.between(low, high) };
+                *sample = number as i32;
+            }
+        }
+        case.inverse();
+    });
+}
+
+/// Numbers that wrap to a reached sample in 8, 16 or 20 bits must not be taken for it.
+#[test]
+fn samples_a_power_of_two_away() {
+    each_round("samples_a_power_of_two_away", 2000, |random, origin| {
+        let mut case = reached(random, origin);
+        let power = 1i32 << (17 + random.below(14));
+        let sample = sample(random, &mut case);
+        *sample = sample.wrapping_add(random.one_of(&[power, -power]));
+        assert_eq!(case.inverse().0, 12, "{case}");
+    });
+}
+
+/// The ends of every range, one pixel, every transform and depth: within a range and reached or not,
+/// the answer is the reference's; one beyond it is always 12.
+#[test]
+fn range_ends_of_one_pixel() {
+    each_round("range_ends_of_one_pixel", 1, |random, origin| {
+        for transform in 0..TRANSFORMS {
+            for depth in 2..=16 {
+                let settings = Settings { width: 1, height: 1, depth, transform };
+                let ends = ranges(transform, depth).map(|(low, high)| [low - 1, low, 0, high, high + 1]);
+                for nulls in 0..1u32 << compare::reference::places(transform) {
+                    let mut case = random::case_of(random, settings, origin);
+                    for (place, choice) in case.choices.iter_mut().enumerate() {
+                        *choice = if nulls >> place & 1 == 1 { 12 } else { 0 };
+                    }
+                    for code in 0..125 {
+                        let which = [code % 5, code / 5 % 5, code / 25];
+                        case.planes = [0, 1, 2].map(|plane| vec![ends[plane][which[plane]] as i32]);
+                        let (answer, _) = case.inverse();
+                        let beyond = which.iter().any(|&end| end == 0 || end == 4);
+                        assert!(!beyond || answer == 12, "{case}");
+                    }
+                }
+            }
+        }
+    });
+}

@@ -1,0 +1,261 @@
+//! Every refusal, alone and with others: the first in the order of the tests wins.
+
+use crate::library::c;
+use crate::random::{self, each_round, Random};
+use crate::same::Case;
+use compare::reference::{counters_needed, places, Settings, TRANSFORMS};
+use std::ptr::null_mut;
+
+/// A fault and the refusal that it causes.
+struct Fault {
+    number: u32,
+    make: Box<dyn Fn(&mut Case)>,
+}
+
+#[derive(Clone, Copy, PartialEq)]
+enum Call {
+    Forward,
+    Inverse,
+    Estimate,
+    Search,
+}
+
+const CALLS: [Call; 4] = [Call::Forward, Call::Inverse, Call::Estimate, Call::Search];
+
+/// The number that the call answers; everything else is compared on the way.
+fn answer(call: Call, case: &Case) -> u32 {
+    match call {
+        Call::Forward => case.forward().0,
+        Call::Inverse => case.inverse().0,
+        Call::Estimate => case.estimate().refusal,
+        Call::Search => case.search().0.refusal,
+    }
+}
+
+/// All faults that the call tests for, in the order of the tests.
+fn faults(call: Call, case: &Case) -> Vec<Fault> {
+    let mut faults: Vec<Fault> = Vec::new();
+    let mut add = |number, make: Box<dyn Fn(&mut Case)>| faults.push(Fault { number, make });
+    for side in [0, 8193, 65_536, 1 << 31, u32::MAX] {
+        add(2, Box::new(move |case| case.settings.width = side));
+        add(2, Box::new(move |case| case.settings.height = side));
+    }
+    add(2, Box::new(|case| (case.settings.width, case.settings.height) = (65_536, 65_536)));
+    for depth in [0, 1, 17, 31, 32, 34, 256 + 8, u32::MAX] {
+        add(5, Box::new(move |case| case.settings.depth = depth));
+    }
+    for transform in [4, 5, 256, 1 << 16, u32::MAX] {
+        add(6, Box::new(move |case| case.settings.transform = transform));
+    }
+    add(7, Box::new(|case| case.choices.truncate(1)));
+    add(7, Box::new(|case| case.choices.push(0)));
+    add(7, Box::new(|case| case.choices.clear()));
+    if call != Call::Search {
+        for place in 0..case.choices.len() {
+            for filter in [13, 128, 255] {
+                add(
+                    7,
+                    Box::new(move |case| case.choices.get_mut(place).into_iter().for_each(|choice| *choice = filter)),
+                );
+            }
+        }
+    }
+    for plane in 0..3 {
+        add(8, Box::new(move |case| case.planes[plane].truncate(1)));
+        add(8, Box::new(move |case| case.planes[plane].push(0)));
+        add(8, Box::new(move |case| case.planes[plane].clear()));
+    }
+    if matches!(call, Call::Estimate | Call::Search) {
+        let (samples, needed) = (case.samples(), counters_needed(case.settings.transform, case.settings.depth));
+        for plane in 0..3 {
+            add(9, Box::new(move |case| case.trial[plane].truncate(samples - 1)));
+            add(9, Box::new(move |case| case.trial[plane].clear()));
+        }
+        add(9, Box::new(move |case| case.counters.truncate(needed - 1)));
+        add(9, Box::new(move |case| case.counters.clear()));
+    }
+    if call == Call::Search {
+        for rounds in [0, 5, 256 + 1, u32::MAX] {
+            add(10, Box::new(move |case| case.rounds = rounds));
+        }
+    }
+    let greatest = (1 << case.settings.depth) - 1;
+    let (number, samples): (u32, &[i32]) = match call {
+        Call::Inverse => (12, &[i32::MIN, i32::MAX, 1 << 20]),
+        _ => (11, &[-1, greatest + 1, i32::MIN, i32::MAX]),
+    };
+    for &sample in samples {
+        for plane in 0..3 {
+            let set = move |sample_at: Option<&mut i32>| sample_at.into_iter().for_each(|at| *at = sample);
+            add(number, Box::new(move |case| set(case.planes[plane].first_mut())));
+            add(number, Box::new(move |case| set(case.planes[plane].last_mut())));
+        }
+    }
+    faults
+}
+
+/// A case with no fault for the call. Two pixels, so that every length can be short and not empty.
+fn sound(random: &mut Random, call: Call, transform: u32, origin: &str) -> Case {
+    let depth = random.one_of(&[2, 5, 8]);
+    let mut case = random::case_of(random, Settings { width: 2, height: 1, depth, transform }, origin);
+    if call == Call::Inverse {
+        case.planes = case.forward().1;
+    }
+    assert_eq!(answer(call, &case), 0, "{case}");
+    case
+}
+
+#[test]
+fn one_fault_and_two() {
+    each_round("one_fault_and_two", 1, |random, origin| {
+        for call in CALLS {
+            for transform in 0..TRANSFORMS {
+                let case = sound(random, call, transform, origin);
+                let faults = faults(call, &case);
+                for (i, first) in faults.iter().enumerate() {
+                    let mut one = case.clone();
+                    (first.make)(&mut one);
+                    assert_eq!(answer(call, &one), first.number, "{one}");
+                    for second in faults[i + 1..].iter().filter(|second| second.number != first.number) {
+                        // The earlier fault last: it may make what the later one changes pointless.
+                        let mut two = case.clone();
+                        (second.make)(&mut two);
+                        (first.make)(&mut two);
+                        assert_eq!(answer(call, &two), first.number, "{two}");
+                    }
+                }
+            }
+        }
+    });
+}
+
+/// Any number of faults at once; the reference says which comes first.
+#[test]
+fn several_faults() {
+    each_round("several_faults", 4000, |random, origin| {
+        let call = random.one_of(&CALLS);
+        let transform = random.below(TRANSFORMS as usize) as u32;
+        let mut case = sound(random, call, transform, origin);
+        let faults = faults(call, &case);
+        for _ in 0..1 + random.below(4) {
+            (random.one_of(&faults.iter().collect::<Vec<_>>()).make)(&mut case);
+        }
+        answer(call, &case);
+    });
+}
+
+/// The last settings on the right side of every limit are taken.
+#[test]
+fn limits_pass() {
+    each_round("limits_pass", 1, |random, origin| {
+        for (width, height, depth) in [(8192, 1, 8), (1, 8192, 8), (1, 1, 2), (1, 1, 16)] {
+            for transform in 0..TRANSFORMS {
+                let mut case = random::case_of(random, Settings { width, height, depth, transform }, origin);
+                case.choices = vec![12; places(transform)];
+                case.planes = [(1 << depth) - 1, 0, (1 << depth) - 1].map(|sample| vec![sample; case.samples()]);
+                assert_eq!(case.forward().0, 0, "{case}");
+                assert_eq!(case.estimate().refusal, 0, "{case}");
+                for rounds in if case.samples() == 1 { 1..=4 } else { 1..=1 } {
+                    case.rounds = rounds;
+                    assert_eq!(case.search().0.refusal, 0, "{case}");
+                }
+            }
+        }
+    });
+}
+
+/// The search takes choices that hold anything.
+#[test]
+fn search_ignores_lent_choices() {
+    each_round("search_ignores_lent_choices", 300, |random, origin| {
+        let mut case = random::case(random, origin);
+        (case.settings.width, case.settings.height) = (3, 2);
+        case = random::case_of(random, case.settings, origin);
+        case.choices.iter_mut().for_each(|choice| *choice = random.below(256) as u8);
+        assert_eq!(case.search().0.refusal, 0, "{case}");
+    });
+}
+
+/// Null pointers of length 0 are allowed everywhere.
+#[test]
+fn null_pointers() {
+    let none32 = null_mut::<i32>();
+    let choices = [0u8; 4];
+    let choice = choices.as_ptr();
+    let mut found = [7u8; 4];
+    let plane = [0i32; 1];
+    let p = plane.as_ptr();
+    let mut trial = [[1i32; 1]; 3];
+    let [t1, t2, t3] = trial.each_mut().map(|plane| plane.as_mut_ptr());
+    // SAFETY: every pointer points to as many elements as said, and no two overlap.
+    unsafe {
+        for call in [c::rulantip_forward, c::rulantip_inverse] {
+            assert_eq!(call(0, 1, 8, 0, null_mut(), 0, none32, 0, none32, 0, none32, 0), 2);
+            assert_eq!(call(1, 1, 8, 0, null_mut(), 0, none32, 0, none32, 0, none32, 0), 7);
+            assert_eq!(call(1, 1, 8, 0, choice, 4, none32, 0, none32, 0, none32, 0), 8);
+        }
+        let estimate = |choices, count, plane, samples, t1, t2, t3, trial| {
+            c::rulantip_estimate(
+                1,
+                1,
+                8,
+                0,
+                choices,
+                count,
+                plane,
+                samples,
+                plane,
+                samples,
+                plane,
+                samples,
+                t1,
+                trial,
+                t2,
+                trial,
+                t3,
+                trial,
+                null_mut(),
+                0,
+            )
+            .refusal
+        };
+        assert_eq!(estimate(null_mut(), 0, none32 as *const i32, 0, none32, none32, none32, 0), 7);
+        assert_eq!(estimate(choice, 4, none32 as *const i32, 0, none32, none32, none32, 0), 8);
+        assert_eq!(estimate(choice, 4, p, 1, none32, none32, none32, 0), 9);
+        assert_eq!(estimate(choice, 4, p, 1, t1, t2, t3, 1), 9);
+        let mut search = |count: usize, samples: usize| {
+            let choices = if count == 0 { null_mut() } else { found.as_mut_ptr() };
+            let plane = if samples == 0 { none32 as *const i32 } else { p };
+            c::rulantip_search(
+                1,
+                1,
+                8,
+                0,
+                1,
+                choices,
+                count,
+                plane,
+                samples,
+                plane,
+                samples,
+                plane,
+                samples,
+                none32,
+                0,
+                none32,
+                0,
+                none32,
+                0,
+                null_mut(),
+                0,
+            )
+            .refusal
+        };
+        assert_eq!([search(0, 0), search(4, 0), search(4, 1)], [7, 8, 9]);
+        assert_eq!(c::rulantip_p6_header(null_mut(), 0).refusal, 1);
+        assert_eq!(c::rulantip_p6_planes(null_mut(), 0, none32, 0, none32, 0, none32, 0), 1);
+        let file = b"P6 1 1 3 abc";
+        assert_eq!(c::rulantip_p6_planes(file.as_ptr(), file.len(), none32, 0, none32, 0, none32, 0), 8);
+    }
+    assert_eq!((found, trial), ([7; 4], [[1]; 3]));
+}

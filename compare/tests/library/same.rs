@@ -1,0 +1,225 @@
+//! One call of the library, held to the reference: answer, lent memory and guard words.
+
+use crate::lent::{Lent, Word};
+use crate::library::c::{self, InPlace, RulantipEstimated, RulantipPixmap};
+use compare::reference::{self, Estimated, Scratch, Settings};
+use std::fmt;
+
+/// Everything that a call on planes is given.
+#[derive(Clone)]
+pub struct Case {
+    pub settings: Settings,
+    pub rounds: u32,
+    pub choices: Vec<u8>,
+    pub planes: [Vec<i32>; 3],
+    pub trial: [Vec<i32>; 3],
+    pub counters: Vec<u32>,
+    /// Where the lent memory starts.
+    pub alignment: usize,
+    /// How to make the case again.
+    pub origin: String,
+}
+
+impl fmt::Display for Case {
+    fn fmt(&self, f: &mut fmt::Formatter<'_>) -> fmt::Result {
+        let Settings { width, height, depth, transform } = self.settings;
+        writeln!(f, "{}", self.origin)?;
+        writeln!(f, "width {width} height {height} depth {depth} transform {transform} rounds {}", self.rounds)?;
+        writeln!(f, "choices {:?} alignment {}", self.choices, self.alignment)?;
+        writeln!(f, "trial planes {:?} counters {}", self.trial.each_ref().map(Vec::len), self.counters.len())?;
+        for (plane, number) in self.planes.iter().zip(1..) {
+            let first = &plane[..plane.len().min(100)];
+            writeln!(f, "plane {number}, {} samples: {first:?}", plane.len())?;
+        }
+        Ok(())
+    }
+}
+
+impl Case {
+    pub fn samples(&self) -> usize {
+        self.settings.width as usize * self.settings.height as usize
+    }
+
+    fn lent_planes(&self) -> [Lent<i32>; 3] {
+        [0, 1, 2].map(|i| Lent::new(&self.planes[i], self.alignment + i))
+    }
+
+    fn slices(&self) -> [&[i32]; 3] {
+        self.planes.each_ref().map(Vec::as_slice)
+    }
+
+    fn scratch(&self) -> Scratch {
+        Scratch { trial: self.trial.each_ref().map(Vec::len), counters: self.counters.len() }
+    }
+
+    fn fail(&self, call: &str, problem: &str) -> ! {
+        panic!("{call}: {problem}\n{self}")
+    }
+
+    /// The forward call; its answer and the planes after it.
+    pub fn forward(&self) -> (u32, [Vec<i32>; 3]) {
+        let expected = reference::forward(self.settings, &self.choices, self.slices());
+        self.in_place("rulantip_forward", c::rulantip_forward, expected)
+    }
+
+    /// The inverse call; its answer and the planes after it.
+    pub fn inverse(&self) -> (u32, [Vec<i32>; 3]) {
+        let expected = reference::inverse(self.settings, &self.choices, self.slices());
+        self.in_place("rulantip_inverse", c::rulantip_inverse, expected)
+    }
+
+    /// The inverse call where the expected answer is known already.
+    pub fn inverse_as(&self, expected: Result<[Vec<i32>; 3], u32>) {
+        self.in_place("rulantip_inverse", c::rulantip_inverse, expected);
+    }
+
+    fn in_place(&self, name: &str, call: InPlace, expected: Result<[Vec<i32>; 3], u32>) -> (u32, [Vec<i32>; 3]) {
+        let mut choices = Lent::new(&self.choices, self.alignment);
+        let [mut c1, mut c2, mut c3] = self.lent_planes();
+        let Settings { width, height, depth, transform } = self.settings;
+        // SAFETY: every pointer points to as many elements as said, and no two overlap.
+        #[rustfmt::skip]
+        let answer = unsafe {
+            call(
+                width, height, depth, transform,
+                choices.pointer(), choices.len(),
+                c1.pointer(), c1.len(), c2.pointer(), c2.len(), c3.pointer(), c3.len(),
+            )
+        };
+        let planes = [c1, c2, c3];
+        let (number, after) = match expected {
+            Ok(planes) => (0, planes),
+            Err(number) => (number, self.planes.clone()),
+        };
+        if answer != number {
+            self.fail(name, &format!("the answer is {answer}, expected {number}"));
+        }
+        self.compare(name, &[("choices", &choices, &self.choices)]);
+        for (i, plane) in ["c1", "c2", "c3"].iter().enumerate() {
+            self.compare(name, &[(plane, &planes[i], &after[i])]);
+        }
+        (answer, after)
+    }
+
+    fn compare<T: Word>(&self, call: &str, lent: &[(&str, &Lent<T>, &[T])]) {
+        for (name, memory, expected) in lent {
+            if let Some(problem) = memory.differs(name, expected) {
+                self.fail(call, &problem);
+            }
+        }
+    }
+
+    /// The estimate.
+    pub fn estimate(&self) -> RulantipEstimated {
+        let expected = reference::estimate(self.settings, &self.choices, self.slices(), self.scratch());
+        self.estimate_as(expected.map(|estimated| (self.choices.clone(), estimated)), false)
+    }
+
+    /// The search; its answer and the choices after it.
+    pub fn search(&self) -> (RulantipEstimated, Vec<u8>) {
+        let expected = reference::search(self.settings, self.rounds, self.choices.len(), self.slices(), self.scratch());
+        let filters = expected.as_ref().map_or(self.choices.clone(), |found| found.filters.clone());
+        (self.estimate_as(expected.map(|found| (found.filters, found.estimated)), true), filters)
+    }
+
+    /// The estimate or the search where the choices after it and the answer are known.
+    pub fn estimate_as(&self, expected: Result<(Vec<u8>, Estimated), u32>, search: bool) -> RulantipEstimated {
+        let name = if search { "rulantip_search" } else { "rulantip_estimate" };
+        let mut choices = Lent::new(&self.choices, self.alignment);
+        let [mut c1, mut c2, mut c3] = self.lent_planes();
+        let [mut t1, mut t2, mut t3] = [0, 1, 2].map(|i| Lent::new(&self.trial[i], self.alignment + 2 * i));
+        let mut counters = Lent::new(&self.counters, self.alignment + 5);
+        let Settings { width, height, depth, transform } = self.settings;
+        // SAFETY: every pointer points to as many elements as said, and no two overlap.
+        #[rustfmt::skip]
+        let answer = unsafe {
+            if search {
+                c::rulantip_search(
+                    width, height, depth, transform, self.rounds,
+                    choices.pointer(), choices.len(),
+                    c1.pointer(), c1.len(), c2.pointer(), c2.len(), c3.pointer(), c3.len(),
+                    t1.pointer(), t1.len(), t2.pointer(), t2.len(), t3.pointer(), t3.len(),
+                    counters.pointer(), counters.len(),
+                )
+            } else {
+                c::rulantip_estimate(
+                    width, height, depth, transform,
+                    choices.pointer(), choices.len(),
+                    c1.pointer(), c1.len(), c2.pointer(), c2.len(), c3.pointer(), c3.len(),
+                    t1.pointer(), t1.len(), t2.pointer(), t2.len(), t3.pointer(), t3.len(),
+                    counters.pointer(), counters.len(),
+                )
+            }
+        };
+        let success = expected.is_ok();
+        let (right, filters) = match expected {
+            Ok((filters, Estimated { estimate, samples })) => {
+                (RulantipEstimated { refusal: 0, estimate, samples }, filters)
+            }
+            Err(refusal) => (RulantipEstimated { refusal, estimate: 0, samples: 0 }, self.choices.clone()),
+        };
+        if answer != right {
+            self.fail(name, &format!("the answer is {answer:?}, expected {right:?} with {filters:?}"));
+        }
+        self.compare(name, &[("choices", &choices, &filters)]);
+        let planes = [("c1", &c1, c1.entry()), ("c2", &c2, c2.entry()), ("c3", &c3, c3.entry())];
+        self.compare(name, &planes);
+        for (trial, memory) in [("t1", &t1), ("t2", &t2), ("t3", &t3)] {
+            let zero = vec![0; memory.len()];
+            self.compare(name, &[(trial, memory, if success { &zero } else { memory.entry() })]);
+        }
+        let zero = vec![0; counters.len()];
+        self.compare(name, &[("counters", &counters, if success { &zero } else { counters.entry() })]);
+        answer
+    }
+}
+
+fn fail_file(call: &str, problem: &str, file: &[u8], origin: &str) -> ! {
+    panic!("{call}: {problem}\n{origin}\nfile, {} bytes: {}", file.len(), file[..file.len().min(300)].escape_ascii())
+}
+
+/// Both calls on a P6 file, held to the reference. The planes are lent with the lengths that the
+/// file asks for plus `longer`. The bytes of `beyond` stand right behind the file and are not part of it.
+pub fn pixmap(file: &[u8], beyond: &[u8], longer: [isize; 3], origin: &str) -> RulantipPixmap {
+    let whole = [file, beyond].concat();
+    let mut memory = Lent::new(&whole, file.len());
+    let expected = reference::pixmap_header(file);
+    let right = match expected {
+        Ok(header) => RulantipPixmap { refusal: 0, width: header.width, height: header.height, depth: header.depth },
+        Err(refusal) => RulantipPixmap { refusal, width: 0, height: 0, depth: 0 },
+    };
+    // SAFETY: the pointer points to as many elements as said.
+    let answer = unsafe { c::rulantip_p6_header(memory.pointer(), file.len()) };
+    if answer != right {
+        fail_file("rulantip_p6_header", &format!("the answer is {answer:?}, expected {right:?}"), file, origin);
+    }
+
+    let samples = right.width as usize * right.height as usize;
+    let lengths = longer.map(|more| samples.saturating_add_signed(more));
+    let planes = lengths.map(|length| (0..length).map(i32::guard).collect::<Vec<i32>>());
+    let [mut c1, mut c2, mut c3] = planes.each_ref().map(|plane| Lent::new(plane, file.len()));
+    let expected = reference::pixmap_planes(file, lengths);
+    // SAFETY: every pointer points to as many elements as said, and no two overlap.
+    #[rustfmt::skip]
+    let answer = unsafe {
+        c::rulantip_p6_planes(
+            memory.pointer(), file.len(),
+            c1.pointer(), c1.len(), c2.pointer(), c2.len(), c3.pointer(), c3.len(),
+        )
+    };
+    let (number, after) = match expected {
+        Ok(planes) => (0, planes),
+        Err(number) => (number, planes),
+    };
+    if answer != number {
+        fail_file("rulantip_p6_planes", &format!("the answer is {answer}, expected {number}"), file, origin);
+    }
+    let differs = [("c1", &c1, &after[0]), ("c2", &c2, &after[1]), ("c3", &c3, &after[2])]
+        .iter()
+        .find_map(|(name, memory, expected)| memory.differs(name, expected))
+        .or(memory.differs("file", &whole));
+    if let Some(problem) = differs {
+        fail_file("rulantip_p6_planes", &problem, file, origin);
+    }
+    right
+}

@@ -1,0 +1,72 @@
+//! Sixteen threads at once on memory of their own get what one thread gets.
+
+use crate::random::{self, each_round};
+use crate::same::{pixmap, Case};
+use compare::generator;
+use compare::reference::{self, Scratch, Settings};
+use std::sync::Barrier;
+use std::thread;
+
+const THREADS: usize = 16;
+
+/// A thread's case with its answers, found before the threads start.
+struct Known {
+    case: Case,
+    finished: [Vec<i32>; 3],
+    found: (Vec<u8>, reference::Estimated),
+    file: Vec<u8>,
+}
+
+impl Known {
+    fn new(case: Case) -> Known {
+        let planes = case.planes.each_ref().map(Vec::as_slice);
+        let scratch = Scratch { trial: case.trial.each_ref().map(Vec::len), counters: case.counters.len() };
+        let finished = reference::forward(case.settings, &case.choices, planes).unwrap();
+        let found = reference::search(case.settings, case.rounds, case.choices.len(), planes, scratch).unwrap();
+        let Settings { width, height, depth, .. } = case.settings;
+        let file = generator::pixmap(width, height, depth, &case.planes);
+        Known { finished, found: (found.filters, found.estimated), file, case }
+    }
+
+    /// Every call once.
+    fn calls(&self) {
+        let (answer, finished) = self.case.forward();
+        assert_eq!((answer, &finished), (0, &self.finished));
+        let back = Case { planes: finished, ..self.case.clone() };
+        back.inverse_as(Ok(self.case.planes.clone()));
+        self.case.estimate_as(Ok(self.found.clone()), true);
+        self.case.estimate();
+        pixmap(&self.file, b"", [0; 3], &self.case.origin);
+    }
+}
+
+#[test]
+fn sixteen_threads() {
+    each_round("sixteen_threads", 2, |random, origin| {
+        let known: Vec<Known> = (0..THREADS)
+            .map(|number| {
+                let settings = Settings {
+                    width: 20 + random.below(20) as u32,
+                    height: 20 + random.below(20) as u32,
+                    depth: 2 + random.below(7) as u32,
+                    transform: number as u32 % 4,
+                };
+                let mut case = random::case_of(random, settings, origin);
+                case.rounds = 1;
+                Known::new(case)
+            })
+            .collect();
+        let start = Barrier::new(THREADS);
+        thread::scope(|scope| {
+            for one in &known {
+                let start = &start;
+                scope.spawn(move || {
+                    start.wait();
+                    for _ in 0..8 {
+                        one.calls();
+                    }
+                });
+            }
+        });
+    });
+}

@@ -1,0 +1,101 @@
+//! Forward and back on pictures.
+
+use crate::random::{self, each_round, Random};
+use crate::same::Case;
+use compare::reference::{places, Settings, TRANSFORMS};
+
+/// Forward as the reference, and back to the picture.
+fn there_and_back(case: &Case) {
+    let (answer, finished) = case.forward();
+    assert_eq!(answer, 0, "{case}");
+    let back = Case { planes: finished, ..case.clone() };
+    back.inverse_as(Ok(case.planes.clone()));
+}
+
+#[test]
+fn random_pictures() {
+    each_round("random_pictures", 8000, |random, origin| there_and_back(&random::case(random, origin)));
+}
+
+#[test]
+fn every_size() {
+    each_round("every_size", 2, |random, origin| {
+        for width in 1..=20 {
+            for height in 1..=20 {
+                for transform in 0..TRANSFORMS {
+                    let depth = 2 + random.below(15) as u32;
+                    let settings = Settings { width, height, depth, transform };
+                    there_and_back(&random::case_of(random, settings, origin));
+                }
+            }
+        }
+    });
+}
+
+#[test]
+fn every_filter_at_every_place() {
+    const SIZES: [(u32, u32); 7] = [(1, 1), (2, 1), (1, 3), (2, 2), (3, 3), (7, 5), (19, 4)];
+    each_round("every_filter_at_every_place", 6, |random, origin| {
+        for transform in 0..TRANSFORMS {
+            for place in 0..places(transform) {
+                for filter in 0..=12 {
+                    for (width, height) in SIZES {
+                        let depth = 2 + random.below(15) as u32;
+                        let mut case = random::case_of(random, Settings { width, height, depth, transform }, origin);
+                        case.choices[place] = filter;
+                        there_and_back(&case);
+                    }
+                }
+            }
+        }
+    });
+}
+
+/// Samples at the ends of their range, at every depth.
+#[test]
+fn extreme_samples() {
+    each_round("extreme_samples", 2, |random, origin| {
+        for depth in 2..=16 {
+            for transform in 0..TRANSFORMS {
+                for filter in 0..=12 {
+                    let settings = Settings { width: 9, height: 7, depth, transform };
+                    let mut case = random::case_of(random, settings, origin);
+                    if random.one_in(2) {
+                        case.choices = vec![filter; places(transform)];
+                    } else {
+                        case.choices[random.below(places(transform))] = filter;
+                    }
+                    case.planes = extremes(random, (1 << depth) - 1, case.samples());
+                    there_and_back(&case);
+                }
+            }
+        }
+    });
+}
+
+fn extremes(random: &mut Random, greatest: i32, samples: usize) -> [Vec<i32>; 3] {
+    [(); 3].map(|()| {
+        let kind = random.below(4);
+        let sample = |i: usize| match kind {
+            0 => 0,
+            1 => greatest,
+            2 => i as i32 % 2 * greatest,
+            _ => (i as i32 + 1) % 2 * greatest,
+        };
+        (0..samples).map(sample).collect()
+    })
+}
+
+#[test]
+fn larger_pictures() {
+    const SIZES: [(u32, u32); 9] =
+        [(1, 8192), (8192, 1), (8192, 3), (2, 8192), (97, 101), (300, 200), (64, 65), (513, 31), (1024, 128)];
+    each_round("larger_pictures", 1, |random, origin| {
+        for (width, height) in SIZES {
+            for transform in 0..TRANSFORMS {
+                let depth = random.one_of(&[8, 12, 16]);
+                there_and_back(&random::case_of(random, Settings { width, height, depth, transform }, origin));
+            }
+        }
+    });
+}

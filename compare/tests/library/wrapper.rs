@@ -1,0 +1,89 @@
+//! The safe module over the C functions gives what they give.
+
+use crate::library::{self, Estimated, Refusal, Scratch, Settings};
+
+const SETTINGS: Settings = Settings { width: 2, height: 1, depth: 8, transform: 2 };
+const PICTURE: [[i32; 2]; 3] = [[10, 20], [100, 101], [7, 9]];
+const FINISHED: [[i32; 2]; 3] = [[10, 20], [-85, -86], [94, 92]];
+
+fn forward(settings: Settings, choices: &[u8], mut planes: [[i32; 2]; 3]) -> Result<[[i32; 2]; 3], Refusal> {
+    library::forward(settings, choices, planes.each_mut().map(|plane| plane.as_mut_slice())).map(|()| planes)
+}
+
+fn inverse(choices: &[u8], mut planes: [[i32; 2]; 3]) -> Result<[[i32; 2]; 3], Refusal> {
+    library::inverse(SETTINGS, choices, planes.each_mut().map(|plane| plane.as_mut_slice())).map(|()| planes)
+}
+
+fn planes_of(file: &[u8]) -> Result<[[i32; 1]; 3], Refusal> {
+    let mut planes = [[-1]; 3];
+    library::pixmap_planes(file, planes.each_mut().map(|plane| plane.as_mut_slice())).map(|()| planes)
+}
+
+#[test]
+fn transforms() {
+    assert_eq!(forward(SETTINGS, &[1, 1], PICTURE), Ok(FINISHED));
+    assert_eq!(inverse(&[1, 1], FINISHED), Ok(PICTURE));
+    assert_eq!(inverse(&[1, 1], [[0, 0], [0, 0], [255, 255]]), Err(Refusal::Unreached));
+    assert_eq!(forward(Settings { width: 0, ..SETTINGS }, &[1, 1], PICTURE), Err(Refusal::Size));
+    assert_eq!(forward(Settings { depth: 1, ..SETTINGS }, &[1, 1], PICTURE), Err(Refusal::Depth));
+    assert_eq!(forward(Settings { transform: 4, ..SETTINGS }, &[1, 1], PICTURE), Err(Refusal::Transform));
+    assert_eq!(forward(SETTINGS, &[], PICTURE), Err(Refusal::Choices));
+    assert_eq!(forward(Settings { width: 3, ..SETTINGS }, &[1, 1], PICTURE), Err(Refusal::Plane));
+    assert_eq!(forward(SETTINGS, &[1, 1], FINISHED), Err(Refusal::Sample));
+}
+
+/// The report's example in the papers.
+#[test]
+fn estimate_and_search() {
+    let [c1, c2, c3] = [[10, 10], [10, 10], [60, 60]];
+    let planes = [&c1[..], &c2[..], &c3[..]];
+    for (transform, estimate) in [256, 384, 256, 256].into_iter().enumerate() {
+        let settings = Settings { transform: transform as u32, ..SETTINGS };
+        let mut choices = vec![9; library::places(settings.transform)];
+        let mut trial = [[5; 2]; 3];
+        let mut counters = vec![3; library::counters(settings.depth)];
+        let right = Ok(Estimated { estimate, samples: 2 });
+        let mut call = |rounds: u32, short: usize, counters: &mut [u32]| {
+            let end = counters.len() - short;
+            let trial = trial.each_mut().map(|plane| plane.as_mut_slice());
+            let scratch = Scratch { trial, counters: &mut counters[..end] };
+            match rounds {
+                9 => library::estimate(settings, &choices, planes, scratch),
+                _ => library::search(settings, rounds, &mut choices, planes, scratch),
+            }
+        };
+        assert_eq!(call(5, 0, &mut counters), Err(Refusal::Rounds));
+        assert_eq!(call(2, 1700, &mut counters), Err(Refusal::Scratch));
+        assert_eq!(call(2, 0, &mut counters), right);
+        assert_eq!(call(9, 0, &mut counters), right);
+        assert_eq!(choices, vec![0; choices.len()]);
+        assert!(counters.iter().all(|&counter| counter == 0));
+    }
+}
+
+#[test]
+fn pixmaps() {
+    let file = b"P6 1 1 255 abc";
+    let pixmap = library::pixmap(file).unwrap();
+    assert_eq!((pixmap.width, pixmap.height, pixmap.depth, pixmap.raster), (1, 1, 8, &b"abc"[..]));
+    assert_eq!(pixmap.raster.as_ptr(), file[11..].as_ptr());
+    assert_eq!(planes_of(file), Ok([[97], [98], [99]]));
+    for (file, refusal) in [
+        (&b"P5 1 1 255 abc"[..], Refusal::Header),
+        (b"P6 1 0 255 ", Refusal::Size),
+        (b"P6 1 1 1 abc", Refusal::Maxval),
+        (b"P6 1 1 255 ab", Refusal::Raster),
+    ] {
+        assert_eq!(library::pixmap(file), Err(refusal));
+        assert_eq!(planes_of(file), Err(refusal));
+    }
+    assert_eq!(planes_of(b"P6 2 1 255 abcdef"), Err(Refusal::Plane));
+}
+
+#[test]
+fn refusals_by_number() {
+    for (refusal, number) in Refusal::ALL.into_iter().zip(1..) {
+        assert_eq!(refusal.number(), number);
+        assert!(!refusal.to_string().is_empty());
+    }
+}

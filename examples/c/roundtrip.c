@@ -1,0 +1,170 @@
+/* Reads a P6 file, finds the best transform and filters, transforms the picture and brings it back. */
+
+#include "rulantip.h"
+
+#include <stdio.h>
+#include <stdlib.h>
+
+static const char *const names[4] = {"RCT", "YCoCg-R", "RDgDb", "LDgEb"};
+static const size_t places[4] = {4, 4, 2, 3};
+
+static const char *const causes[13] = {
+    "success",
+    "the header does not have the form of P6",
+    "width or height is outside 1 to 8,192",
+    "maxval is not 3, 7, 15, 31, 63, 127 or 255",
+    "other than 3 * width * height bytes follow the header",
+    "the depth is outside 2 to 16",
+    "the transform is above 3",
+    "there is not one choice for each place, or a choice is above 12",
+    "a plane's length is not width * height",
+    "a trial plane is short, or there are too few counters",
+    "the rounds are outside 1 to 4",
+    "a sample is outside the depth",
+    "no picture goes to these planes",
+};
+
+static void stop(const char *what, const char *why)
+{
+    fprintf(stderr, "%s: %s\n", what, why);
+    exit(1);
+}
+
+static void stop_refused(const char *what, uint32_t refusal)
+{
+    fprintf(stderr, "%s: refused %u, %s\n", what, (unsigned)refusal, refusal <= 12 ? causes[refusal] : "no cause known");
+    exit(1);
+}
+
+static void *memory(size_t count, size_t size)
+{
+    void *p = calloc(count, size);
+    if (p == NULL)
+        stop("roundtrip", "no memory");
+    return p;
+}
+
+/* The whole file, and its length. */
+static uint8_t *read_file(const char *name, size_t *length)
+{
+    FILE *in = fopen(name, "rb");
+    size_t room = 65536;
+    uint8_t *bytes = memory(room, 1);
+
+    if (in == NULL)
+        stop(name, "cannot be opened");
+    *length = 0;
+    for (;;) {
+        size_t got = fread(bytes + *length, 1, room - *length, in);
+        if (got == 0)
+            break;
+        *length += got;
+        if (*length == room) {
+            room *= 2;
+            bytes = realloc(bytes, room);
+            if (bytes == NULL)
+                stop("roundtrip", "no memory");
+        }
+    }
+    if (ferror(in))
+        stop(name, "cannot be read");
+    fclose(in);
+    return bytes;
+}
+
+/* The lowest and the highest number of a plane. */
+static void print_range(int number, const int32_t *plane, size_t samples)
+{
+    int32_t low = plane[0], high = plane[0];
+    size_t i;
+
+    for (i = 1; i < samples; i++) {
+        if (plane[i] < low)
+            low = plane[i];
+        if (plane[i] > high)
+            high = plane[i];
+    }
+    printf("plane %d holds %ld to %ld\n", number, (long)low, (long)high);
+}
+
+int main(int argc, char **argv)
+{
+    size_t length, samples, counters, i;
+    uint8_t *file;
+    const uint8_t *raster;
+    int32_t *c1, *c2, *c3, *t1, *t2, *t3;
+    uint32_t *counter;
+    uint8_t choices[4][4];
+    uint32_t best = 0, lowest = 0, refusal, transform;
+    rulantip_pixmap picture;
+
+    if (argc != 2)
+        stop("usage", "roundtrip FILE.ppm");
+    file = read_file(argv[1], &length);
+    picture = rulantip_p6_header(file, length);
+    if (picture.refusal != 0)
+        stop_refused(argv[1], picture.refusal);
+    printf("width %u height %u depth %u\n", (unsigned)picture.width, (unsigned)picture.height, (unsigned)picture.depth);
+
+    samples = (size_t)picture.width * picture.height;
+    raster = file + (length - 3 * samples);
+    c1 = memory(samples, sizeof *c1);
+    c2 = memory(samples, sizeof *c2);
+    c3 = memory(samples, sizeof *c3);
+    refusal = rulantip_p6_planes(file, length, c1, samples, c2, samples, c3, samples);
+    if (refusal != 0)
+        stop_refused(argv[1], refusal);
+
+    /* Scratch: three trial planes, and counters that are enough for every transform. */
+    t1 = memory(samples, sizeof *t1);
+    t2 = memory(samples, sizeof *t2);
+    t3 = memory(samples, sizeof *t3);
+    counters = RULANTIP_COUNTERS(picture.depth);
+    counter = memory(counters, sizeof *counter);
+
+    printf("transform filters estimate samples\n");
+    for (transform = 0; transform < 4; transform++) {
+        uint8_t *found = choices[transform];
+        rulantip_estimated answer = rulantip_search(
+            picture.width, picture.height, picture.depth, transform, 2, found, places[transform],
+            c1, samples, c2, samples, c3, samples, t1, samples, t2, samples, t3, samples, counter, counters);
+        if (answer.refusal != 0)
+            stop_refused(argv[1], answer.refusal);
+        printf("%s ", names[transform]);
+        for (i = 0; i < places[transform]; i++)
+            printf(i == 0 ? "%u" : ",%u", (unsigned)found[i]);
+        printf(" %u %u\n", (unsigned)answer.estimate, (unsigned)answer.samples);
+        if (transform == 0 || answer.estimate < lowest) {
+            best = transform;
+            lowest = answer.estimate;
+        }
+    }
+    printf("best %s\n", names[best]);
+
+    refusal = rulantip_forward(picture.width, picture.height, picture.depth, best, choices[best], places[best],
+                               c1, samples, c2, samples, c3, samples);
+    if (refusal != 0)
+        stop_refused("forward", refusal);
+    print_range(1, c1, samples);
+    print_range(2, c2, samples);
+    print_range(3, c3, samples);
+
+    refusal = rulantip_inverse(picture.width, picture.height, picture.depth, best, choices[best], places[best],
+                               c1, samples, c2, samples, c3, samples);
+    if (refusal != 0)
+        stop_refused("inverse", refusal);
+    for (i = 0; i < samples; i++)
+        if (c1[i] != raster[3 * i] || c2[i] != raster[3 * i + 1] || c3[i] != raster[3 * i + 2])
+            stop(argv[1], "the picture did not come back");
+    printf("all %lu samples came back\n", (unsigned long)(3 * samples));
+
+    free(file);
+    free(c1);
+    free(c2);
+    free(c3);
+    free(t1);
+    free(t2);
+    free(t3);
+    free(counter);
+    return 0;
+}

@@ -1,0 +1,69 @@
+//! Reads a P6 file, finds the best transform and filters, transforms the picture and brings it back.
+
+#[path = "../../compare/src/library.rs"]
+mod library;
+
+use library::{counters, forward, inverse, pixmap, pixmap_planes, places, search, Refusal, Scratch, Settings};
+use std::process::exit;
+
+const NAMES: [&str; 4] = ["RCT", "YCoCg-R", "RDgDb", "LDgEb"];
+
+fn stop(what: &str, why: &str) -> ! {
+    eprintln!("{what}: {why}");
+    exit(1)
+}
+
+fn stop_refused(what: &str, refusal: Refusal) -> ! {
+    stop(what, &format!("refused {}, {refusal}", refusal.number()))
+}
+
+fn main() {
+    let words: Vec<String> = std::env::args().collect();
+    let [_, name] = &words[..] else { stop("usage", "roundtrip FILE.ppm") };
+    let file = std::fs::read(name).unwrap_or_else(|error| stop(name, &error.to_string()));
+    let picture = pixmap(&file).unwrap_or_else(|refusal| stop_refused(name, refusal));
+    let (width, height, depth) = (picture.width, picture.height, picture.depth);
+    println!("width {width} height {height} depth {depth}");
+
+    let samples = width as usize * height as usize;
+    let mut planes = [(); 3].map(|()| vec![0i32; samples]);
+    pixmap_planes(&file, planes.each_mut().map(Vec::as_mut_slice))
+        .unwrap_or_else(|refusal| stop_refused(name, refusal));
+
+    // Scratch: three trial planes, and counters that are enough for every transform.
+    let mut trial = [(); 3].map(|()| vec![0i32; samples]);
+    let mut counters = vec![0u32; counters(depth)];
+
+    println!("transform filters estimate samples");
+    let mut best: Option<(u32, Settings, Vec<u8>)> = None;
+    for transform in 0..4 {
+        let settings = Settings { width, height, depth, transform };
+        let mut choices = vec![0u8; places(transform)];
+        let scratch = Scratch { trial: trial.each_mut().map(Vec::as_mut_slice), counters: &mut counters };
+        let answer = search(settings, 2, &mut choices, planes.each_ref().map(Vec::as_slice), scratch)
+            .unwrap_or_else(|refusal| stop_refused(name, refusal));
+        let filters: Vec<String> = choices.iter().map(u8::to_string).collect();
+        println!("{} {} {} {}", NAMES[transform as usize], filters.join(","), answer.estimate, answer.samples);
+        if best.as_ref().is_none_or(|(lowest, _, _)| answer.estimate < *lowest) {
+            best = Some((answer.estimate, settings, choices));
+        }
+    }
+    let (_, settings, choices) = best.expect("four transforms were searched");
+    println!("best {}", NAMES[settings.transform as usize]);
+
+    forward(settings, &choices, planes.each_mut().map(Vec::as_mut_slice))
+        .unwrap_or_else(|refusal| stop_refused("forward", refusal));
+    for (plane, number) in planes.iter().zip(1..) {
+        let (low, high) = (plane.iter().min().unwrap(), plane.iter().max().unwrap());
+        println!("plane {number} holds {low} to {high}");
+    }
+
+    inverse(settings, &choices, planes.each_mut().map(Vec::as_mut_slice))
+        .unwrap_or_else(|refusal| stop_refused("inverse", refusal));
+    for (i, pixel) in picture.raster.chunks_exact(3).enumerate() {
+        if planes.each_ref().map(|plane| plane[i]) != [pixel[0], pixel[1], pixel[2]].map(i32::from) {
+            stop(name, "the picture did not come back");
+        }
+    }
+    println!("all {} samples came back", 3 * samples);
+}

@@ -1,0 +1,212 @@
+/* The colour stage of a material capture library: four reversible colour transforms with a filter in
+   each lifting step, an entropy estimate, a filter search and a reader of P6 pixmaps.
+
+   Link with target/staticlib/librulantip.a, which `rt staticlib rulantip` proves and writes.
+
+   A PICTURE has width and height 1 to 8,192, a depth b of 2 to 16 bits and three planes of
+   width * height numbers, row by row. As a picture they hold R, G and B, each 0 to M = 2^b - 1.
+
+   TRANSFORMS and their places, each place with a filter of its own (d marks a filtered value; the
+   places are numbered in the order written; divisions round down):
+
+     0  RCT      C1 = C1 - C2d; C3 = C3 - C2d; C2 = C2 + (C1d + C3d)/4                 4 places
+     1  YCoCg-R  C1 = C1 - C3d; C3 = C3 + C1d/2; C2 = C2 - C3d; C3 = C3 + C2d/2        4 places
+     2  RDgDb    C3 = -C3 + C2d; C2 = -C2 + C1d                                        2 places
+     3  LDgEb    C2 = -C2 + C1d; C1 = C1 - C2d/2; C3 = C3 - C1d                        3 places
+
+   FILTERS 0 gives the sample itself; 1 to 11 the mean of the 3 by 3 window with centre weight
+   2^(filter - 1); 12 gives 0. CHOICES are one filter for each place, in the order of the places.
+
+   WHAT THE CALLER OWES, and no call can test:
+   - Each pointer points to as many elements as the length after it says. For length 0 any pointer
+     will do, also a null pointer.
+   - No two lent pieces of memory overlap where the call may write to one of them (a parameter that
+     is not const). Pieces that are only read may overlap.
+   - Nobody else writes to lent memory, or reads what the call may write, while the call runs.
+
+   THREADS: no call keeps anything, allocates, or has any state of its own. Any number of threads
+   may call at once on different memory; memory that is only read may be the same.
+
+   REFUSALS. A call returns 0, or the number of the first test that fails; a struct has it in its
+   field `refusal`, and its other fields are then 0. On a refusal all lent memory is as on entry. */
+
+#ifndef RULANTIP_H
+#define RULANTIP_H
+
+#include <stddef.h>
+#include <stdint.h>
+
+#ifdef __cplusplus
+extern "C" {
+#endif
+
+/* The transforms. */
+#define RULANTIP_RCT 0
+#define RULANTIP_YCOCG_R 1
+#define RULANTIP_RDGDB 2
+#define RULANTIP_LDGEB 3
+
+/* Refusals that whoever made a P6 file can cause. */
+#define RULANTIP_REFUSED_HEADER 1        /* the header does not have the form of P6 */
+#define RULANTIP_REFUSED_SIZE 2          /* width or height outside 1 to 8,192; also the calling program */
+#define RULANTIP_REFUSED_MAXVAL 3        /* maxval is not 3, 7, 15, 31, 63, 127 or 255 */
+#define RULANTIP_REFUSED_RASTER 4        /* other than 3 * width * height bytes follow the header */
+
+/* Refusals that the calling program can cause, with number 2. */
+#define RULANTIP_REFUSED_DEPTH 5         /* depth outside 2 to 16 */
+#define RULANTIP_REFUSED_TRANSFORM 6     /* transform above 3 */
+#define RULANTIP_REFUSED_CHOICES 7       /* not one choice for each place, or a choice above 12 */
+#define RULANTIP_REFUSED_PLANE 8         /* a plane's length is not width * height */
+#define RULANTIP_REFUSED_SCRATCH 9       /* a trial plane below width * height numbers, or too few counters */
+#define RULANTIP_REFUSED_ROUNDS 10       /* rounds outside 1 to 4 */
+
+/* Refusals that whoever made the samples can cause. */
+#define RULANTIP_REFUSED_SAMPLE 11       /* a sample of the picture outside 0 to M */
+#define RULANTIP_REFUSED_UNREACHED 12    /* planes that no picture goes to */
+
+/* SCRATCH of rulantip_estimate and rulantip_search: three trial planes of width * height numbers or
+   more, and 2 * D + 1 counters or more, D being the widest range of the transform's finished planes.
+   With M = 2^b - 1, H = 2^(b-1) and q = 2^(b-2):
+
+                    D            2 * D + 1     depth 8   depth 16
+     RCT, RDgDb     2 * M        8 * H - 3       1,021    262,141
+     YCoCg-R        14 * q - 4   14 * H - 7      1,785    458,745
+     LDgEb          6 * H - 3    12 * H - 5      1,531    393,211
+
+   What the scratch holds on entry does not matter; after success all of it is 0, also what was lent
+   beyond the need. */
+
+/* Counters that are enough for every transform at the depth, and at every depth. */
+#define RULANTIP_COUNTERS(depth) (((size_t)14 << ((depth) - 1)) - 7)
+#define RULANTIP_COUNTERS_MAX 458745
+
+/* Runs the transform's steps on a picture, in place.
+   Tests, in this order: 2, 5, 6, 7, 8, 11. After success the planes hold what the picture goes to. */
+uint32_t rulantip_forward(
+    uint32_t width,         /* of the picture, 1 to 8,192 */
+    uint32_t height,        /* of the picture, 1 to 8,192 */
+    uint32_t depth,         /* b, the bits of a sample, 2 to 16 */
+    uint32_t transform,     /* 0 to 3 */
+    const uint8_t *choices, /* the filter of each place, 0 to 12 */
+    size_t choices_len,     /* the number of the transform's places */
+    int32_t *c1,            /* plane 1: R before, changed in place */
+    size_t c1_len,          /* width * height */
+    int32_t *c2,            /* plane 2: G before, changed in place */
+    size_t c2_len,          /* width * height */
+    int32_t *c3,            /* plane 3: B before, changed in place */
+    size_t c3_len           /* width * height */
+);
+
+/* Undoes the transform's steps in the opposite order, in place, with the choices of the forward call.
+   Tests, in this order: 2, 5, 6, 7, 8, 12. After success the planes hold the one picture that goes to
+   the planes lent. It refuses with 12 exactly where there is none; the planes are then as on entry. */
+uint32_t rulantip_inverse(
+    uint32_t width,         /* as in rulantip_forward, to the end */
+    uint32_t height,
+    uint32_t depth,
+    uint32_t transform,
+    const uint8_t *choices,
+    size_t choices_len,
+    int32_t *c1,            /* finished plane 1, R after success */
+    size_t c1_len,
+    int32_t *c2,            /* finished plane 2, G after success */
+    size_t c2_len,
+    int32_t *c3,            /* finished plane 3, B after success */
+    size_t c3_len
+);
+
+/* The answer of the estimate and the search. */
+typedef struct {
+    uint32_t refusal;       /* 0, or the refusal's number */
+    uint32_t estimate;      /* of the three finished planes together, in sixty-fourths of a bit */
+    uint32_t samples;       /* N, how many samples of each plane are counted, at most 4,096 */
+} rulantip_estimated;
+
+/* Estimates how many bits the picture's finished planes take under the choices given.
+   Tests, in this order: 2, 5, 6, 7, 8, 9, 11. After success all scratch is 0; planes and choices are
+   never changed. */
+rulantip_estimated rulantip_estimate(
+    uint32_t width,         /* as in rulantip_forward */
+    uint32_t height,
+    uint32_t depth,
+    uint32_t transform,
+    const uint8_t *choices, /* the filter of each place, 0 to 12 */
+    size_t choices_len,
+    const int32_t *c1,      /* R */
+    size_t c1_len,          /* width * height */
+    const int32_t *c2,      /* G */
+    size_t c2_len,          /* width * height */
+    const int32_t *c3,      /* B */
+    size_t c3_len,          /* width * height */
+    int32_t *t1,            /* trial plane 1, scratch */
+    size_t t1_len,          /* width * height or more */
+    int32_t *t2,            /* trial plane 2, scratch */
+    size_t t2_len,          /* width * height or more */
+    int32_t *t3,            /* trial plane 3, scratch */
+    size_t t3_len,          /* width * height or more */
+    uint32_t *counters,     /* scratch */
+    size_t counters_len     /* 2 * D + 1 or more */
+);
+
+/* Searches for the filters with the lowest estimate, a place at a time, from filter 0 everywhere.
+   Tests, in this order: 2, 5, 6, 7 (the number of choices alone: what they hold on entry does not
+   matter), 8, 9, 10, 11. After success the choices hold the filters found, the answer is their
+   estimate, and all scratch is 0; the planes are never changed. */
+rulantip_estimated rulantip_search(
+    uint32_t width,         /* as in rulantip_forward */
+    uint32_t height,
+    uint32_t depth,
+    uint32_t transform,
+    uint32_t rounds,        /* how often to go through the places, 1 to 4 */
+    uint8_t *choices,       /* receives the filter of each place */
+    size_t choices_len,     /* the number of the transform's places */
+    const int32_t *c1,      /* from here on as in rulantip_estimate */
+    size_t c1_len,
+    const int32_t *c2,
+    size_t c2_len,
+    const int32_t *c3,
+    size_t c3_len,
+    int32_t *t1,
+    size_t t1_len,
+    int32_t *t2,
+    size_t t2_len,
+    int32_t *t3,
+    size_t t3_len,
+    uint32_t *counters,
+    size_t counters_len
+);
+
+/* The answer of the pixmap reader. */
+typedef struct {
+    uint32_t refusal;       /* 0, or the refusal's number */
+    uint32_t width;         /* 1 to 8,192 */
+    uint32_t height;        /* 1 to 8,192 */
+    uint32_t depth;         /* 2 to 8 */
+} rulantip_pixmap;
+
+/* Reads the header of a P6 file. Tests, in this order: 1, 2, 3, 4. After success the raster is the
+   file's last 3 * width * height bytes, R G B by pixel. The file is never changed. */
+rulantip_pixmap rulantip_p6_header(
+    const uint8_t *file,    /* the whole file */
+    size_t file_len         /* its length in bytes */
+);
+
+/* Writes the raster of a P6 file to three planes. Tests, in this order: 1, 2, 3, 4, 8. After success
+   the planes hold R, G and B. A byte above maxval is written as it stands: the calls on pictures
+   refuse it with 11. The file is never changed. */
+uint32_t rulantip_p6_planes(
+    const uint8_t *file,    /* the whole file */
+    size_t file_len,        /* its length in bytes */
+    int32_t *c1,            /* receives R */
+    size_t c1_len,          /* width * height */
+    int32_t *c2,            /* receives G */
+    size_t c2_len,          /* width * height */
+    int32_t *c3,            /* receives B */
+    size_t c3_len           /* width * height */
+);
+
+#ifdef __cplusplus
+}
+#endif
+
+#endif
