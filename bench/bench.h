@@ -1,0 +1,64 @@
+/* The plain C that the library is timed against: same rules, same tests, same work on whole planes. */
+#ifndef BENCH_H
+#define BENCH_H
+#include <stddef.h>
+#include <stdint.h>
+
+#define INLINE static inline __attribute__((always_inline))
+#define FILTERS 13
+#define TRANSFORMS 4
+#define MOST_PLACES 4
+#define MOST_COUNTED 4096
+
+typedef struct {
+    size_t width, height;
+    uint32_t depth, transform;
+} setting;
+
+/* How a step changes a sample c by a filtered value f. The opposite of an even one is the next odd one. */
+enum change {
+    PLUS, MINUS,                   /* c + f, c - f */
+    PLUS_HALF, MINUS_HALF,         /* c + f/2, c - f/2 */
+    PLUS_QUARTER, MINUS_QUARTER,   /* c + (f + g)/4, c - (f + g)/4: two filtered values */
+    NEGATE                         /* -c + f: its own opposite */
+};
+
+/* kernels.c */
+int are_samples(const int32_t *plane, size_t count, uint32_t most);
+int are_within(const int32_t *plane, size_t count, int32_t low, int32_t high);
+void lift(enum change change, uint32_t filter, int32_t *c, const int32_t *a, size_t width, size_t height);
+void lift_quarter(enum change change, const uint8_t filters[2], int32_t *c, const int32_t *a, const int32_t *b,
+                  size_t width, size_t height);
+
+/* transforms.c; steps and planes count from 0 */
+uint32_t places_of(uint32_t transform);
+uint32_t steps_of(uint32_t transform);
+uint32_t step_of_place(uint32_t transform, uint32_t place);
+int changes_plane(uint32_t transform, uint32_t first_step, uint32_t plane);
+void range_of(uint32_t depth, uint32_t transform, uint32_t plane, int32_t *low, int32_t *high);
+void run_steps(const setting *s, const uint8_t *choices, int32_t *const planes[3], uint32_t from, uint32_t to);
+void undo_steps(const setting *s, const uint8_t *choices, int32_t *const planes[3], uint32_t from, uint32_t to);
+int is_picture(const setting *s, int32_t *const planes[3]);
+uint32_t plain_forward(const setting *s, const uint8_t *choices, int32_t *const planes[3]);
+uint32_t plain_inverse(const setting *s, const uint8_t *choices, int32_t *const planes[3]);
+
+/* search.c */
+typedef struct {
+    uint32_t refusal, estimate, samples;
+} estimated;
+size_t counters_of(uint32_t depth, uint32_t transform);
+void fill_logarithms(void);
+estimated plain_estimate(const setting *s, const uint8_t *choices, int32_t *const planes[3], int32_t *const trial[3],
+                         uint32_t *counters);
+estimated plain_search(const setting *s, uint32_t rounds, uint8_t *choices, int32_t *const planes[3],
+                       int32_t *const trial[3], uint32_t *counters);
+
+/* cases.c */
+enum kind { TRANSFORM, ESTIMATE, SEARCH, KINDS };
+enum call { FORWARD = 1, INVERSE = 2, ESTIMATES = 4, SEARCHES = 8 };   /* bits of a set of calls */
+extern const char *const transform_names[TRANSFORMS];
+extern double worst_ratio[KINDS];   /* 0: none of the kind has run */
+void allocate(size_t widest_square);
+void draw_picture(const setting *s);
+void run_case(enum kind kind, const setting *s, uint32_t filter, uint32_t calls, uint32_t turns);
+#endif
