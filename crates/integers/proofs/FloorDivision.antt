@@ -3,9 +3,9 @@ use mathlib.Core.Path.{_≡_, sym, ap}
 use Prim.Native.Nat.{ℕ, suc, _+_, _*_, _≤_, _<_}
 use native.Mathlib.Omega.{arith}
 use native.Mathlib.Nat.{mul-div-le, lt-mul-div-succ, lt-of-mul-lt-mul-left, le-of-suc-le-suc}
-use lib.IntN.{ℤ, pos, negsuc, _+ℤ_}
+use lib.IntN.{ℤ, pos, negsuc, _+ℤ_, _*ℤ_}
 use Rattle.integers.specs.Parts.{posPart, negPart, floorDiv}
-use Rattle.integers.proofs.Parts.{add-difference, eq-parts}
+use Rattle.integers.proofs.Parts.{add-difference, scale-parts, eq-parts}
 
 pub floorDiv-low : (z : ℤ) (d : ℕ) → 0 < d → d * posPart (floorDiv z d) + negPart z ≤ posPart z + d * negPart (floorDiv z d)
 floorDiv-low (pos n) d h = omega (arith, mul-div-le n d)
@@ -28,10 +28,11 @@ floorDiv-is z d q h low high =
     eq-parts q r (omega arith)
 
 -- a multiple of the divisor comes out
-pub floorDiv-add : (z : ℤ) (d m : ℕ) → 0 < d → floorDiv (z +ℤ pos (d * m)) d ≡ floorDiv z d +ℤ pos m
-floorDiv-add z d m h =
+pub floorDiv-out : (c z : ℤ) (d : ℕ) → 0 < d → floorDiv (pos d *ℤ c +ℤ z) d ≡ c +ℤ floorDiv z d
+floorDiv-out c z d h =
     let p = floorDiv-low z d h in
     let q = floorDiv-high z d h in
-    let a = add-difference z (pos (d * m)) in
-    let b = ap (λ (n : ℕ). d * n) (add-difference (floorDiv z d) (pos m) .sum) in
-    sym (floorDiv-is (z +ℤ pos (d * m)) d (floorDiv z d +ℤ pos m) h (omega arith) (omega arith))
+    let multiple = scale-parts d c in
+    let total = add-difference (pos d *ℤ c) z in
+    let result = ap (λ (n : ℕ). d * n) (add-difference c (floorDiv z d) .sum) in
+    sym (floorDiv-is (pos d *ℤ c +ℤ z) d (c +ℤ floorDiv z d) h (omega arith) (omega arith))

@@ -5,3 +5,5 @@ pub mod Reciprocals
 pub mod Offsets
 pub mod Windows
 pub mod Borders
+pub mod Means
+pub mod Interior

@@ -2,20 +2,21 @@
 use mathlib.Core.Path.{_≡_, ap, ap₂, _∙_}
 use Prim.Native.Nat.{ℕ, _+_, _*_, _/_, _≤_, _<_}
 use native.Mathlib.Omega.{arith}
-use native.Mathlib.Nat.{mul-div-le, lt-mul-div-succ, div-lt-iff-lt-mul, mul-le-mul-left}
-use lib.Dec.{T}
-use lib.IntN.{ℤ, pos, negsuc, natAbs, _+ℤ_, _-ℤ_, _*ℤ_}
+use native.Mathlib.Nat.{mul-le-mul-left}
+use lib.Dec.{T, lit≤, lit<}
+use lib.IntN.{ℤ, pos, negsuc, natAbs, _+ℤ_, _-ℤ_, _*ℤ_, +ℤ-comm}
 use lib.Signed.{nonNeg}
 use mir.Syntax.{w32}
 use mir.Val.{SFits, Fits}
 use Rattle.integers.specs.Parts.{posPart, negPart, In}
-use Rattle.integers.proofs.Parts.{add-difference, scale-parts, natAbs-parts}
-use Rattle.integers.proofs.Ranges.{nonneg-holds, nonneg-is}
-use Rattle.integers.proofs.Linear.{flat, count, eq-lin, in-lin, fits-lin}
-use Rattle.integers.proofs.FloorDivision.{floorDiv-is}
+use Rattle.integers.proofs.Parts.{add-difference, natAbs-parts}
+use Rattle.integers.proofs.Ranges.{nonneg-holds, nonneg-is, in-fits}
+use Rattle.integers.proofs.Linear.{flat, count, eq-lin, in-lin, fits-lin, lin-in}
 use Rattle.stage.specs.Filter.{roundedMean}
+use Rattle.stage.proofs.Means.{roundedMean-in}
 use Rattle.kernel.specs.Part.{ValueIn}
 use Rattle.kernel.specs.Window.{Offset}
+use Rattle.kernel.proofs.Means.{mean-beside}
 
 -- one sample
 pub record OffsetSample (z : ℤ) : Type 0 where
@@ -67,21 +68,15 @@ pub offset-mean : {t n : ℕ} {z : ℤ} → 1 ≤ t → Offset t z n → OffsetM
 offset-mean {t} {n} {z} h p =
     let q = (n + t / 2) / t in
     let v = pos q -ℤ pos 524288 in
-    let low = mul-div-le (n + t / 2) t in
-    let high = lt-mul-div-succ (n + t / 2) h in
-    let bound : q < 1048577 = div-lt-iff-lt-mul {k = t} {x = n + t / 2} {y = 1048577} h .1 (omega arith) in
     let above = ap posPart (p .is) in
     let below = ap negPart (p .is) in
     let sum = add-difference z (pos (524288 * t)) in
-    let twice = scale-parts 2 z in
-    let top = add-difference (pos 2 *ℤ z) (pos t) in
-    let result : posPart v + 524288 ≡ negPart v + q = let k = add-difference (pos q) (negsuc 524287) in omega arith in
-    let scaled = ap (λ (x : ℕ). t * x) result in
+    let m = mean-beside (n + t / 2) z (negsuc 524287) h (eq-lin (simp flat (simp count (omega arith)))) in
+    let e : v ≡ roundedMean z t = +ℤ-comm (pos q) (negsuc 524287) ∙ m in
+    let i : In 524288 524288 v = rw e (roundedMean-in 524288 524288 z t (in-lin (simp flat (simp count (omega arith))))) in
+    let r = simp count at (simp flat at (lin-in i)) in
     record {
       own = fits-lin (simp flat (simp count (omega arith)));
-      difference = fits-lin (simp flat (simp count (omega arith)));
-      value = record {
-        is = floorDiv-is (pos 2 *ℤ z +ℤ pos t) (2 * t) v (omega arith) (omega arith) (omega arith);
-        range = in-lin (simp flat (simp count (omega arith)));
-      };
+      difference = in-fits i (lit≤ tt) (lit< tt);
+      value = record { is = e; range = i };
     }

@@ -1,30 +1,12 @@
 -- RCT's third step, with two filtered values, as two passes without loss; and the same back.
-use mathlib.Core.Path.{_≡_, refl, sym, ap₂}
-use mathlib.Core.List.{List, [], _∷_}
-use Prim.Native.Nat.{ℕ, suc}
+use mathlib.Core.Path.{_≡_, sym}
 use native.Mathlib.Omega.{arith}
 use lib.IntN.{ℤ, pos, negℤ, _+ℤ_, _-ℤ_, _*ℤ_}
 use Rattle.integers.specs.Parts.{floorDiv}
-use Rattle.integers.specs.Lists.{mapIndexed}
-use Rattle.integers.proofs.Parts.{add-difference, neg-parts, scale-parts}
+use Rattle.integers.proofs.Parts.{add-difference, neg-parts}
 use Rattle.integers.proofs.Linear.{flat, count, eq-lin}
-use Rattle.integers.proofs.FloorDivision.{floorDiv-low, floorDiv-high, floorDiv-is}
+use Rattle.integers.proofs.FloorDivision.{floorDiv-low, floorDiv-high, floorDiv-is, floorDiv-out}
 use Rattle.kernel.specs.Pass.{applied}
-
--- one pass after another
-pub mapIndexed-twice : (f g : ℕ → ℤ → ℤ) (i : ℕ) (l : List ℤ) → mapIndexed g i (mapIndexed f i l) ≡ mapIndexed (λ k z. g k (f k z)) i l
-mapIndexed-twice f g i [] = refl
-mapIndexed-twice f g i (z ∷ l) = ap₂ _∷_ refl (mapIndexed-twice f g (suc i) l)
-
--- a multiple of 4 comes out of a quarter
-fourfold-out : (c z : ℤ) → floorDiv (pos 4 *ℤ c +ℤ z) 4 ≡ c +ℤ floorDiv z 4
-fourfold-out c z =
-    let low = floorDiv-low z 4 (omega arith) in
-    let high = floorDiv-high z 4 (omega arith) in
-    let fourfold = scale-parts 4 c in
-    let total = add-difference (pos 4 *ℤ c) z in
-    let result = add-difference c (floorDiv z 4) in
-    sym (floorDiv-is (pos 4 *ℤ c +ℤ z) 4 (c +ℤ floorDiv z 4) (omega arith) (omega arith) (omega arith))
 
 -- a quarter subtracted is a quarter of the negative rounded up
 quarter-up : (z : ℤ) → floorDiv (negℤ z +ℤ pos 3) 4 ≡ negℤ (floorDiv z 4)
@@ -41,11 +23,11 @@ pub quarter-added : (c f g : ℤ) → applied 7 (applied 5 c f) g ≡ c +ℤ flo
 unfolding applied
 quarter-added c f g =
     let e : pos 4 *ℤ c +ℤ f +ℤ g ≡ pos 4 *ℤ c +ℤ (f +ℤ g) = eq-lin (simp flat (simp count (omega arith))) in
-    rw e (fourfold-out c (f +ℤ g))
+    rw e (floorDiv-out c (f +ℤ g) 4 (omega arith))
 
 -- passes 6 and 8: C − (f + g) / 4
 pub quarter-subtracted : (c f g : ℤ) → applied 8 (applied 6 c f) g ≡ c -ℤ floorDiv (f +ℤ g) 4
 unfolding applied
 quarter-subtracted c f g =
     let e : pos 4 *ℤ c -ℤ f -ℤ g +ℤ pos 3 ≡ pos 4 *ℤ c +ℤ (negℤ (f +ℤ g) +ℤ pos 3) = eq-lin (simp flat (simp count (omega arith))) in
-    rw (e, fourfold-out c (negℤ (f +ℤ g) +ℤ pos 3), quarter-up (f +ℤ g))
+    rw (e, floorDiv-out c (negℤ (f +ℤ g) +ℤ pos 3) 4 (omega arith), quarter-up (f +ℤ g))

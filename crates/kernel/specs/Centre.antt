@@ -2,17 +2,15 @@
 use mathlib.Core.Path.{_≡_}
 use Prim.Native.Nat.{ℕ, _+_, _*_, _^_, _≤_}
 
--- a product with the reciprocal, shifted right by 32 and by the shift, divides any 32-bit number by d
-pub record Reciprocal (d reciprocal shift : ℕ) : Type 0 where
+-- 2^35 / d rounded up, or one more where d divides it: n times it, divided by 2^35, is n / d for all n below 2^35 / d
+pub record Reciprocal (d reciprocal : ℕ) : Type 0 where
   pub positive : 1 ≤ d
-  pub least : 2 ^ (32 + shift) ≤ reciprocal * d
-  pub most : reciprocal * d ≤ 2 ^ (32 + shift) + 2 ^ shift
-  pub short : shift ≤ 10
+  pub least : 2 ^ 35 ≤ reciprocal * d
+  pub most : reciprocal * d ≤ 2 ^ 35 + d
 
--- a centre weight as a power of two, and the reciprocal of the full window's weight
-pub record CentreWeight (weight exponent reciprocal shift : ℕ) : Type 0 where
-  pub power : weight ≡ 2 ^ exponent
+-- a centre weight, what it has to be multiplied with for 2^23, and the reciprocal of the full window's weight
+pub record CentreWeight (weight offset reciprocal : ℕ) : Type 0 where
   pub least : 1 ≤ weight
   pub most : weight ≤ 1024
-  pub short : exponent ≤ 10
-  pub divides : Reciprocal (8 + weight) reciprocal shift
+  pub product : weight * offset ≡ 8388608
+  pub divides : Reciprocal (8 + weight) reciprocal

@@ -13,11 +13,13 @@ pub record Offset (n : ℕ) (z : ℤ) (r : ℕ) : Type 0 where
   pub is : pos r ≡ z +ℤ pos (524288 * n)
   pub most : r ≤ 1048576 * n
 
+-- the sample at index i and those on both sides
+abbrev pub threeSum : List ℤ → ℕ → ℤ
+threeSum a i = at a (i - 1) +ℤ at a i +ℤ at a (i + 1)
+
 -- the eight neighbours of index i in the interior of a plane of width w
 abbrev pub neighbourSum : ℕ → List ℤ → ℕ → ℤ
-neighbourSum w a i =
-    at a (i - w - 1) +ℤ at a (i - w) +ℤ at a (i - w + 1) +ℤ at a (i - 1) +ℤ at a (i + 1) +ℤ at a (i + w - 1) +ℤ at a (i + w)
-    +ℤ at a (i + w + 1)
+neighbourSum w a i = threeSum a (i - w) +ℤ at a (i - 1) +ℤ at a (i + 1) +ℤ threeSum a (i + w)
 
 -- the mean there, for a centre weight
 unfoldable pub interiorMean : ℕ → ℕ → List ℤ → ℕ → ℤ

@@ -52,7 +52,7 @@ fn lift_means(
     requires { ⌜ (length (now a) ≡ width * height) × (length (now c) ≡ width * height) ⌝ }
     requires { ⌜ AllIn 524288 524288 (now a) ⌝ }
     requires { ⌜ AllIn 4194304 4194304 (now c) ⌝ }
-    requires { ⌜ CentreWeight (centre .weight) (centre .exponent) (centre .reciprocal) (centre .shift) ⌝ }
+    requires { ⌜ CentreWeight (centre .weight) (centre .offset) (centre .reciprocal) ⌝ }
     ensures { λ _. ⌜ Changed (λ i x. applied pass x (mean width height (centre .weight) (now (a .entry)) i)) (from * width) (to * width) (now (c .entry)) (now (c .exit)) ⌝ }
 {
     let mut y = from;

@@ -70,7 +70,7 @@ fn interior_loop(
     requires { ⌜ (width + 1 ≤ from) × (from ≤ to) × (to + width < length (now a)) × (to ≤ length (now c)) × (pass ≤ 8) ⌝ }
     requires { ⌜ AllIn 524288 524288 (now a) ⌝ }
     requires { ⌜ PartIn 4194304 from to (now c) ⌝ }
-    requires { ⌜ CentreWeight (centre .weight) (centre .exponent) (centre .reciprocal) (centre .shift) ⌝ }
+    requires { ⌜ CentreWeight (centre .weight) (centre .offset) (centre .reciprocal) ⌝ }
     ensures { λ _. ⌜ Changed (λ i x. applied pass x (interiorMean width (centre .weight) (now (a .entry)) i)) from to (now (c .entry)) (now (c .exit)) ⌝ }
 {
     let mut i = from;
@@ -93,7 +93,7 @@ fn lift_interior(
     requires { ⌜ (width + 1 ≤ from) × (from ≤ to) × (to + width < length (now a)) × (to ≤ length (now c)) × (pass ≤ 8) ⌝ }
     requires { ⌜ AllIn 524288 524288 (now a) ⌝ }
     requires { ⌜ PartIn 4194304 from to (now c) ⌝ }
-    requires { ⌜ CentreWeight (centre .weight) (centre .exponent) (centre .reciprocal) (centre .shift) ⌝ }
+    requires { ⌜ CentreWeight (centre .weight) (centre .offset) (centre .reciprocal) ⌝ }
     ensures { λ _. ⌜ Changed (λ i x. applied pass x (interiorMean width (centre .weight) (now (a .entry)) i)) from to (now (c .entry)) (now (c .exit)) ⌝ }
 {
     match pass {
@@ -151,7 +151,7 @@ pub fn lift_row(
     requires { ⌜ (length (now a) ≡ width * height) × (length (now c) ≡ width * height) ⌝ }
     requires { ⌜ AllIn 524288 524288 (now a) ⌝ }
     requires { ⌜ PartIn 4194304 (y * width) (y * width + width) (now c) ⌝ }
-    requires { ⌜ CentreWeight (centre .weight) (centre .exponent) (centre .reciprocal) (centre .shift) ⌝ }
+    requires { ⌜ CentreWeight (centre .weight) (centre .offset) (centre .reciprocal) ⌝ }
     ensures { λ _. ⌜ Changed (λ i x. applied pass x (mean width height (centre .weight) (now (a .entry)) i)) (y * width) (y * width + width) (now (c .entry)) (now (c .exit)) ⌝ }
 {
     let weight = centre.weight;

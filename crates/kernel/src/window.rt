@@ -1,4 +1,4 @@
-// The filtered value of one sample. Every sample is offset by 2^19 first, so that all sums are unsigned.
+// The filtered value of one sample. At the border every sample is offset by 2^19 first, so that all sums are unsigned.
 ghost use mathlib.Core.Path.{_≡_};
 ghost use Prim.Native.Nat.{_≤_, _<_, _+_, _*_};
 ghost use lib.IntN.{pos, _*ℤ_};
@@ -7,9 +7,9 @@ ghost use Rattle.integers.specs.Lists.{at, AllIn};
 ghost use Rattle.stage.specs.Filter.{mean};
 ghost use Rattle.kernel.specs.Part.{ValueIn};
 ghost use Rattle.kernel.specs.Centre.{CentreWeight};
-ghost use Rattle.kernel.specs.Window.{Offset, neighbourSum, interiorMean, windowless, Indicator, rowSum};
+ghost use Rattle.kernel.specs.Window.{Offset, threeSum, neighbourSum, interiorMean, windowless, Indicator, rowSum};
 use crate::centre::Centre;
-use crate::centre::divide;
+use crate::centre::eighths;
 
 const OFFSET: i32 = 524288;
 
@@ -21,32 +21,36 @@ pub fn offset_sample(plane: &[i32], i: usize) -> u32
     (plane[i] + OFFSET) as u32
 }
 
-// The eight neighbours of an interior sample.
-pub fn neighbours(plane: &[i32], width: usize, i: usize) -> u32
-    requires { ⌜ (width + 1 ≤ i) × (i + width + 1 < length (now plane)) ⌝ }
+// The sample at index i and its neighbours on both sides.
+pub fn three(plane: &[i32], i: usize) -> i32
+    requires { ⌜ (1 ≤ i) × (i + 1 < length (now plane)) ⌝ }
     requires { ⌜ AllIn 524288 524288 (now plane) ⌝ }
-    ensures { λ r. ⌜ Offset 8 (neighbourSum width (now (plane .entry)) i) r ⌝ }
+    ensures { λ r. ⌜ ValueIn 1572864 (threeSum (now (plane .entry)) i) r ⌝ }
 {
-    offset_sample(plane, i - width - 1)
-        + offset_sample(plane, i - width)
-        + offset_sample(plane, i - width + 1)
-        + offset_sample(plane, i - 1)
-        + offset_sample(plane, i + 1)
-        + offset_sample(plane, i + width - 1)
-        + offset_sample(plane, i + width)
-        + offset_sample(plane, i + width + 1)
+    plane[i - 1] + plane[i] + plane[i + 1]
 }
 
-// The mean of an interior sample's window.
+// The eight neighbours of an interior sample.
+pub fn neighbours(plane: &[i32], width: usize, i: usize) -> i32
+    requires { ⌜ (width + 1 ≤ i) × (i + width + 1 < length (now plane)) ⌝ }
+    requires { ⌜ AllIn 524288 524288 (now plane) ⌝ }
+    ensures { λ r. ⌜ ValueIn 4194304 (neighbourSum width (now (plane .entry)) i) r ⌝ }
+{
+    three(plane, i - width) + plane[i - 1] + plane[i + 1] + three(plane, i + width)
+}
+
+// The mean of an interior sample's window. With weight k of the sample s, full weight d and b = s − 2^23 / k, the window's sum is
+// d b + (neighbours − 8 b + 2^23), where what stands in brackets is not negative: the mean is b and a division of that.
 pub fn interior_mean(plane: &[i32], width: usize, i: usize, centre: Centre) -> i32
     requires { ⌜ (width + 1 ≤ i) × (i + width + 1 < length (now plane)) ⌝ }
     requires { ⌜ AllIn 524288 524288 (now plane) ⌝ }
-    requires { ⌜ CentreWeight (centre .weight) (centre .exponent) (centre .reciprocal) (centre .shift) ⌝ }
+    requires { ⌜ CentreWeight (centre .weight) (centre .offset) (centre .reciprocal) ⌝ }
     ensures { λ r. ⌜ ValueIn 524288 (interiorMean width (centre .weight) (now (plane .entry)) i) r ⌝ }
 {
     let d = 8 + centre.weight;
-    let sum = neighbours(plane, width, i) + (offset_sample(plane, i) << centre.exponent);
-    (divide(sum + d / 2, d, centre.reciprocal, centre.shift) as i32) - OFFSET
+    let base = 8 * (plane[i] - (centre.offset as i32));
+    let rest = neighbours(plane, width, i) - base + ((8388608 + d / 2) as i32);
+    (base + (eighths(rest as u32, d, centre.reciprocal) as i32)) >> 3
 }
 
 // 1 where n is below m, and else 0

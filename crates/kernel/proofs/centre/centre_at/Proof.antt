@@ -1,34 +1,41 @@
 use borrow.Author.Needs.{needs}
+use native.Mathlib.Omega.{arith}
 use mathlib.Core.Path.{refl}
 use Rattle.kernel.proofs.Reciprocals.{entry-sound}
 use Rattle.kernel.proofs.centre.centre_at.Statement.{statement}
 use Rattle.kernel.proofs.centre.centre_at.Tie as tie
 
-mul-t3 : tie.Need-mul-t3
-mul-t3 c = search needs
+mul-weight : tie.Need-mul-weight
+mul-weight c = search needs
 
-array-read-t6 : tie.Need-array-read-t6
-array-read-t6 c = search needs
+array-read-weight : tie.Need-array-read-weight
+array-read-weight c = search needs
 
 cast-t7 : tie.Need-cast-t7
 cast-t7 c = search needs
 
-mul-t9 : tie.Need-mul-t9
-mul-t9 c = search needs
+shr-t8 : tie.Need-shr-t8
+shr-t8 c = search needs
 
-array-read-t12 : tie.Need-array-read-t12
-array-read-t12 c = search needs
+add-reciprocal-of : tie.Need-add-reciprocal-of
+add-reciprocal-of c = let e = entry-sound (c .args .entry) (c .pre) in search needs
 
-mul-t14 : tie.Need-mul-t14
-mul-t14 c = search needs
-
-array-read-t17 : tie.Need-array-read-t17
-array-read-t17 c = search needs
+reciprocal-of-requires : tie.Need-reciprocal-of-requires
+reciprocal-of-requires c κs = let e = entry-sound (c .args .entry) (c .pre) in omega arith
 
 returns : tie.Need-returns
-returns c = (entry-sound _ (c .pre), refl)
+returns c =
+    let e = entry-sound (c .before .args .entry) (c .before .pre) in
+    (record { least = e .least; most = e .most; product = e .product; divides = c .reciprocal-of .ensures }, refl)
 
 pub centre-at-spec : {M : Type 1} → statement M
 centre-at-spec =
     tie.close
-    (tie.spec mul-t3 array-read-t6 cast-t7 mul-t9 array-read-t12 mul-t14 array-read-t17 returns)
+    (tie.spec
+    mul-weight
+    array-read-weight
+    cast-t7
+    shr-t8
+    add-reciprocal-of
+    reciprocal-of-requires
+    returns)

@@ -1,81 +1,150 @@
 use borrow.Author.Needs.{needs}
-use mathlib.Core.Path.{_≡_, ap, sym, _∙_}
-use native.Mathlib.Omega.{arith}
-use native.Mathlib.Nat.{mul-comm}
-use Prim.Native.Nat.{ℕ, _+_, _*_, _%_, _^_}
-use lib.Pow.{shl-exact}
-use lib.IntN.{pos, _+ℤ_, _*ℤ_}
 use denote.Ref.{now}
+use Prim.Native.Nat.{_+_}
+use lib.IntN.{ℤ, pos, _+ℤ_, _*ℤ_}
+use mathlib.Core.Path.{ap, _∙_}
+use lib.Dec.{lit≤, lit<}
 use mir.Facts.{toZ-ofZ}
+use mir.Syntax.{w32}
+use mir.Val.{SFits}
 use Rattle.integers.specs.Lists.{at}
-use Rattle.integers.proofs.Ranges.{toZ-nat}
-use Rattle.kernel.specs.Window.{neighbourSum, interiorMean, Offset}
-use Rattle.kernel.proofs.Offsets.{OffsetMean, offset-add, offset-times, offset-mean}
+use Rattle.integers.specs.Parts.{In}
+use Rattle.integers.proofs.Ranges.{sfits-shr, in-zero, in-fits}
+use Rattle.stage.specs.Filter.{roundedMean}
+use Rattle.kernel.specs.Window.{interiorMean}
+use Rattle.kernel.proofs.Interior.{InteriorFits, interior-fits, InteriorResult, interior-result}
 use Rattle.kernel.proofs.window.interior_mean.Statement.{statement}
 use Rattle.kernel.proofs.window.interior_mean.Tie as tie
 
--- the shift is a product with the centre weight
-shifted : (c : tie.After-offset-sample) →
-    let s = c .before .before .before .args .centre in
-    (c .offset-sample .result * 2 ^ s .exponent) % 2 ^ 32 ≡ s .weight * c .offset-sample .result
-shifted c =
-    let s = c .before .before .before in
-    shl-exact 21 (s .args .centre .exponent) 32 (omega arith) (omega arith)
-    ∙ ap (λ (n : ℕ). c .offset-sample .result * n) (sym (s .pre .1 .1 .power))
-    ∙ mul-comm (c .offset-sample .result) (s .args .centre .weight)
+-- the sample and the weights
+own : (s : tie.Start) → In 524288 524288 (at (now (s .args .plane)) (s .args .i))
+own s = s .pre .1 .0 .each (s .args .i)
 
-total : (c : tie.After-offset-sample) →
-    let s = c .before .before .before .args in
-    Offset (8 + s .centre .weight) (neighbourSum (s .width) (now (s .plane)) (s .i) +ℤ pos (s .centre .weight) *ℤ at (now (s .plane)) (s .i)) (c .before .neighbours .result + s .centre .weight * c .offset-sample .result)
-total c = offset-add (c .before .neighbours .ensures) (offset-times (c .before .before .before .args .centre .weight) (c .offset-sample .ensures))
+own-fits : (s : tie.Start) → SFits w32 (at (now (s .args .plane)) (s .args .i))
+own-fits s = in-fits (own s) (lit≤ tt) (lit< tt)
 
-mean : (c : tie.After-divide) →
-    let s = c .before .before .before .before .before .args in
-    OffsetMean (8 + s .centre .weight) (neighbourSum (s .width) (now (s .plane)) (s .i) +ℤ pos (s .centre .weight) *ℤ at (now (s .plane)) (s .i)) (c .divide .result)
-mean c = rw (c .divide .ensures, shifted (c .before .before)) (offset-mean (omega arith) (total (c .before .before)))
+before : (s : tie.Start) → InteriorFits (s .pre .1 .1) (pos 0) (at (now (s .args .plane)) (s .args .i)) (in-zero _ _) (own s)
+before s = interior-fits (s .pre .1 .1) (pos 0) (at (now (s .args .plane)) (s .args .i)) (in-zero _ _) (own s)
+
+-- with the neighbours
+neighbours-fit : (c : tie.After-neighbours) → SFits w32 (c .neighbours .result)
+neighbours-fit c = in-fits (c .neighbours .ensures .range) (lit≤ tt) (lit< tt)
+
+after : (c : tie.After-neighbours) →
+    let s = c .before .before .before .before in
+    InteriorFits (s .pre .1 .1) (c .neighbours .result) (at (now (s .args .plane)) (s .args .i)) (c .neighbours .ensures .range) (own s)
+after c =
+    let s = c .before .before .before .before in
+    interior-fits (s .pre .1 .1) (c .neighbours .result) (at (now (s .args .plane)) (s .args .i)) (c .neighbours .ensures .range) (own s)
 
 add-d : tie.Need-add-d
 add-d c = search needs
 
+mul-base : tie.Need-mul-base
+mul-base c = search needs
+
+shared-slice-copy-out-base : tie.Need-shared-slice-copy-out-base
+shared-slice-copy-out-base c = search needs
+
+cast-base : tie.Need-cast-base
+cast-base c = before (c .before .before .before) .offset-fits
+
+sub-base : tie.Need-sub-base
+sub-base c =
+    let s = c .before .before .before in
+    let k = before s in
+    simp (toZ-ofZ, own-fits s, k .offset-fits) (k .difference)
+
+mul-base-2 : tie.Need-mul-base-2
+mul-base-2 c =
+    let s = c .before .before .before in
+    let k = before s in
+    simp (toZ-ofZ, own-fits s, k .offset-fits, k .difference) (k .base-fits)
+
 neighbours-requires : tie.Need-neighbours-requires
 neighbours-requires c κs = search needs
 
-offset-sample-requires : tie.Need-offset-sample-requires
-offset-sample-requires c κs = search needs
+sub-rest : tie.Need-sub-rest
+sub-rest c =
+    let s = c .before .before .before .before in
+    let k = after c in
+    simp (toZ-ofZ, own-fits s, neighbours-fit c, k .offset-fits, k .difference, k .base-fits) (k .less-base)
 
-shl-sum : tie.Need-shl-sum
-shl-sum c = search needs
+add-rest : tie.Need-add-rest
+add-rest c = search needs
 
-add-sum : tie.Need-add-sum
-add-sum c = rw (shifted (c .before)) (let t = total (c .before) in omega arith)
+cast-rest : tie.Need-cast-rest
+cast-rest c = search needs
 
-add-divide : tie.Need-add-divide
-add-divide c = rw (shifted (c .before)) (let t = total (c .before) in omega arith)
+add-rest-2 : tie.Need-add-rest-2
+add-rest-2 c =
+    let s = c .before .before .before .before in
+    let k = after c in
+    simp (toZ-ofZ, own-fits s, neighbours-fit c, k .offset-fits, k .difference, k .base-fits, k .less-base, k .half) (k .rest-fits)
 
-divide-requires : tie.Need-divide-requires
-divide-requires c κs = search needs
+cast-eighths : tie.Need-cast-eighths
+cast-eighths c =
+    let s = c .before .before .before .before in
+    let k = after c in
+    simp (toZ-ofZ, own-fits s, neighbours-fit c, k .offset-fits, k .difference, k .base-fits, k .less-base, k .half, k .rest-fits) (k .sign, k .size)
+
+eighths-requires : tie.Need-eighths-requires
+eighths-requires c κs =
+    let s = c .before .before .before .before in
+    let k = after c in (
+      s .pre .1 .1 .divides,
+      simp (toZ-ofZ, own-fits s, neighbours-fit c, k .offset-fits, k .difference, k .base-fits, k .less-base, k .half, k .rest-fits) (k .below),
+    )
+
+result : (c : tie.After-eighths) →
+    let n = c .before in
+    let s = n .before .before .before .before in
+    InteriorResult (s .pre .1 .1) (n .neighbours .result) (at (now (s .args .plane)) (s .args .i)) (n .neighbours .ensures .range) (own s) (c .eighths .result)
+result c =
+    let n = c .before in
+    let s = n .before .before .before .before in
+    let k = after n in
+    interior-result (s .pre .1 .1) (n .neighbours .result) (at (now (s .args .plane)) (s .args .i)) (n .neighbours .ensures .range) (own s) (c .eighths .result)
+    (simp (toZ-ofZ, own-fits s, neighbours-fit n, k .offset-fits, k .difference, k .base-fits, k .less-base, k .half, k .rest-fits) at (c .eighths .ensures))
 
 cast-result : tie.Need-cast-result
-cast-result c = let m = mean c in search (needs, toZ-nat)
+cast-result c = result c .own
 
-sub-result : tie.Need-sub-result
-sub-result c = let m = mean c in search (needs, toZ-nat)
+add-result : tie.Need-add-result
+add-result c =
+    let s = c .before .before .before .before .before in
+    let k = before s in
+    let r = result c in
+    simp (toZ-ofZ, own-fits s, k .offset-fits, k .difference, k .base-fits, r .own) (r .sum)
 
 returns : tie.Need-returns
 unfolding interiorMean
-returns c = let m = mean c in simp (toZ-nat, toZ-ofZ, m .own, m .difference) (m .value)
+returns c =
+    let s = c .before .before .before .before .before in
+    let k = before s in
+    let r = result c in
+    let w = s .args .centre .weight in
+    let e = ap (λ (z : ℤ). roundedMean (z +ℤ pos w *ℤ at (now (s .args .plane)) (s .args .i)) (8 + w)) (c .before .neighbours .ensures .is) in
+    simp (toZ-ofZ, own-fits s, k .offset-fits, k .difference, k .base-fits, r .own, r .sum, sfits-shr 8 (r .sum))
+    (record { is = r .value .is ∙ e; range = r .value .range })
 
 pub interior-mean-spec : {M : Type 1} → statement M
 interior-mean-spec =
     tie.close
     (tie.spec
     add-d
+    mul-base
+    shared-slice-copy-out-base
+    cast-base
+    sub-base
+    mul-base-2
     neighbours-requires
-    offset-sample-requires
-    shl-sum
-    add-sum
-    add-divide
-    divide-requires
+    sub-rest
+    add-rest
+    cast-rest
+    add-rest-2
+    cast-eighths
+    eighths-requires
     cast-result
-    sub-result
+    add-result
     returns)

@@ -1,131 +1,104 @@
 use borrow.Author.Needs.{needs}
-use Rattle.kernel.proofs.Offsets.{offset-add}
+use mathlib.Core.Path.{ap₂, ap}
+use Prim.Native.Nat.{_+_, _-_}
+use denote.Ref.{now}
+use lib.IntN.{ℤ, _+ℤ_}
+use Rattle.integers.specs.Parts.{In}
+use Rattle.integers.specs.Lists.{at}
+use Rattle.integers.proofs.Ranges.{in-add, in-sums}
+use Rattle.kernel.specs.Part.{ValueIn}
+use Rattle.kernel.specs.Window.{neighbourSum}
 use Rattle.kernel.proofs.window.neighbours.Statement.{statement}
 use Rattle.kernel.proofs.window.neighbours.Tie as tie
 
-sub-offset-sample : tie.Need-sub-offset-sample
-sub-offset-sample c = search needs
+-- the row above and the samples on both sides
+record Known (c : tie.After-three) : Type 0 where
+  above : In 1572864 1572864 (c .three .result)
+  left : In 524288 524288 (at (now (c .before .args .plane)) (c .before .args .i - 1))
+  right : In 524288 524288 (at (now (c .before .args .plane)) (c .before .args .i + 1))
+  one : In 2097152 2097152 (c .three .result +ℤ at (now (c .before .args .plane)) (c .before .args .i - 1))
+  two : In 2621440 2621440 (c .three .result +ℤ at (now (c .before .args .plane)) (c .before .args .i - 1) +ℤ at (now (c .before .args .plane)) (c .before .args .i + 1))
 
-sub-offset-sample-2 : tie.Need-sub-offset-sample-2
-sub-offset-sample-2 c = search needs
+known : (c : tie.After-three) → Known c
+known c =
+    let s = c .before in
+    let above = c .three .ensures .range in
+    let left = s .pre .1 .each (s .args .i - 1) in
+    let right = s .pre .1 .each (s .args .i + 1) in
+    record { above = above; left = left; right = right; one = in-add above left; two = in-add (in-add above left) right }
 
-offset-sample-requires : tie.Need-offset-sample-requires
-offset-sample-requires c κs = search needs
+sub-three : tie.Need-sub-three
+sub-three c = search needs
 
-sub-offset-sample-3 : tie.Need-sub-offset-sample-3
-sub-offset-sample-3 c = search needs
+three-requires : tie.Need-three-requires
+three-requires c κs = search needs
 
-offset-sample-requires-2 : tie.Need-offset-sample-requires-2
-offset-sample-requires-2 c κs = search needs
+sub-result : tie.Need-sub-result
+sub-result c = search needs
+
+mul-result : tie.Need-mul-result
+mul-result c = search needs
+
+shared-slice-copy-out-result : tie.Need-shared-slice-copy-out-result
+shared-slice-copy-out-result c = search needs
 
 add-result : tie.Need-add-result
-add-result c = search needs
-
-sub-offset-sample-4 : tie.Need-sub-offset-sample-4
-sub-offset-sample-4 c = search needs
-
-add-offset-sample : tie.Need-add-offset-sample
-add-offset-sample c = search needs
-
-offset-sample-requires-3 : tie.Need-offset-sample-requires-3
-offset-sample-requires-3 c κs = search needs
+add-result c = let k = known (c .before) in search (needs, in-sums)
 
 add-result-2 : tie.Need-add-result-2
 add-result-2 c = search needs
 
-sub-offset-sample-5 : tie.Need-sub-offset-sample-5
-sub-offset-sample-5 c = search needs
+mul-result-2 : tie.Need-mul-result-2
+mul-result-2 c = search needs
 
-offset-sample-requires-4 : tie.Need-offset-sample-requires-4
-offset-sample-requires-4 c κs = search needs
+shared-slice-copy-out-result-2 : tie.Need-shared-slice-copy-out-result-2
+shared-slice-copy-out-result-2 c = search needs
 
 add-result-3 : tie.Need-add-result-3
-add-result-3 c = search needs
+add-result-3 c = let k = known (c .before .before) in search (needs, in-sums)
 
-add-offset-sample-2 : tie.Need-add-offset-sample-2
-add-offset-sample-2 c = search needs
+add-three : tie.Need-add-three
+add-three c = search needs
 
-offset-sample-requires-5 : tie.Need-offset-sample-requires-5
-offset-sample-requires-5 c κs = search needs
+three-requires-2 : tie.Need-three-requires-2
+three-requires-2 c κs = search needs
 
 add-result-4 : tie.Need-add-result-4
-add-result-4 c = search needs
+add-result-4 c = let k = known (c .before .before .before) in let u = c .three2 .ensures .range in search (needs, in-sums)
 
-add-offset-sample-3 : tie.Need-add-offset-sample-3
-add-offset-sample-3 c = search needs
-
-sub-offset-sample-6 : tie.Need-sub-offset-sample-6
-sub-offset-sample-6 c = search needs
-
-offset-sample-requires-6 : tie.Need-offset-sample-requires-6
-offset-sample-requires-6 c κs = search needs
-
-add-result-5 : tie.Need-add-result-5
-add-result-5 c = search needs
-
-add-offset-sample-4 : tie.Need-add-offset-sample-4
-add-offset-sample-4 c = search needs
-
-offset-sample-requires-7 : tie.Need-offset-sample-requires-7
-offset-sample-requires-7 c κs = search needs
-
-add-result-6 : tie.Need-add-result-6
-add-result-6 c = search needs
-
-add-offset-sample-5 : tie.Need-add-offset-sample-5
-add-offset-sample-5 c = search needs
-
-add-offset-sample-6 : tie.Need-add-offset-sample-6
-add-offset-sample-6 c = search needs
-
-offset-sample-requires-8 : tie.Need-offset-sample-requires-8
-offset-sample-requires-8 c κs = search needs
-
-add-result-7 : tie.Need-add-result-7
-add-result-7 c = search needs
+-- all eight
+sum : (c : tie.After-three2) →
+    let t = c .before .before .before in
+    let a = now (t .before .args .plane) in
+    let i = t .before .args .i in
+    ValueIn 4194304 (neighbourSum (t .before .args .width) a i) (t .three .result +ℤ at a (i - 1) +ℤ at a (i + 1) +ℤ c .three2 .result)
+sum c =
+    let t = c .before .before .before in
+    let a = now (t .before .args .plane) in
+    let i = t .before .args .i in
+    record {
+      is = ap₂ _+ℤ_ (ap (λ (z : ℤ). z +ℤ at a (i - 1) +ℤ at a (i + 1)) (t .three .ensures .is)) (c .three2 .ensures .is);
+      range = in-add (known t .two) (c .three2 .ensures .range);
+    }
 
 returns : tie.Need-returns
-returns c =
-    let c7 = c .before in
-    let c6 = c7 .before in
-    let c5 = c6 .before in
-    let c4 = c5 .before in
-    let c3 = c4 .before in
-    let c2 = c3 .before in
-    let s2 = offset-add (c2 .before .offset-sample .ensures) (c2 .offset-sample2 .ensures) in
-    let s4 = offset-add (offset-add s2 (c3 .offset-sample3 .ensures)) (c4 .offset-sample4 .ensures) in
-    let s6 = offset-add (offset-add s4 (c5 .offset-sample5 .ensures)) (c6 .offset-sample6 .ensures) in
-    offset-add (offset-add s6 (c7 .offset-sample7 .ensures)) (c .offset-sample8 .ensures)
+returns c = let k = known (c .before .before .before) in let u = c .three2 .ensures .range in let v = sum c in search (needs, in-sums)
 
 pub neighbours-spec : {M : Type 1} → statement M
 neighbours-spec =
     tie.close
     (tie.spec
-    sub-offset-sample
-    sub-offset-sample-2
-    offset-sample-requires
-    sub-offset-sample-3
-    offset-sample-requires-2
+    sub-three
+    three-requires
+    sub-result
+    mul-result
+    shared-slice-copy-out-result
     add-result
-    sub-offset-sample-4
-    add-offset-sample
-    offset-sample-requires-3
     add-result-2
-    sub-offset-sample-5
-    offset-sample-requires-4
+    mul-result-2
+    shared-slice-copy-out-result-2
     add-result-3
-    add-offset-sample-2
-    offset-sample-requires-5
+    add-three
+    three-requires-2
     add-result-4
-    add-offset-sample-3
-    sub-offset-sample-6
-    offset-sample-requires-6
-    add-result-5
-    add-offset-sample-4
-    offset-sample-requires-7
-    add-result-6
-    add-offset-sample-5
-    add-offset-sample-6
-    offset-sample-requires-8
-    add-result-7
     returns)
