@@ -1,8 +1,8 @@
-// Tests that numbers lie in a range −below .. above.
+// Tests that numbers lie in a range, −below .. above or 0 .. 2^bits − 1.
 
 ghost use mathlib.Core.Path.{_≡_};
 ghost use mathlib.Core.Bool.{_&&_};
-ghost use Prim.Native.Nat.{_≤_};
+ghost use Prim.Native.Nat.{_-_, _^_, _≤_};
 ghost use Rattle.integers.specs.Parts.{within};
 ghost use Rattle.integers.specs.Lists.{allWithin};
 
@@ -29,10 +29,24 @@ pub fn all_within(plane: &[i32], below: u32, above: u32) -> bool
     inside
 }
 
-// The same of three planes.
-pub fn three_within(c1: &[i32], c2: &[i32], c3: &[i32], below: u32, above: u32) -> bool
-    requires { ⌜ (below ≤ 1073741824) × (above ≤ 1073741824) ⌝ }
-    ensures { λ r. ⌜ r ≡ (allWithin below above (now (c1 .entry)) && (allWithin below above (now (c2 .entry)) && allWithin below above (now (c3 .entry)))) ⌝ }
+// Whether every number of a plane is one of 0 .. 2^bits − 1: the union of all their bits tells, the sign bits too.
+pub fn all_fit(plane: &[i32], bits: u32) -> bool
+    requires { ⌜ bits ≤ 31 ⌝ }
+    ensures { λ r. ⌜ r ≡ allWithin 0 (2 ^ bits - 1) (now (plane .entry)) ⌝ }
 {
-    all_within(c1, below, above) & (all_within(c2, below, above) & all_within(c3, below, above))
+    let mut union = 0;
+    let mut i = 0;
+    while i < plane.len() {
+        union = union | plane[i];
+        i += 1;
+    }
+    (union >> bits) == 0
+}
+
+// The same of three planes.
+pub fn three_fit(c1: &[i32], c2: &[i32], c3: &[i32], bits: u32) -> bool
+    requires { ⌜ bits ≤ 31 ⌝ }
+    ensures { λ r. ⌜ r ≡ (allWithin 0 (2 ^ bits - 1) (now (c1 .entry)) && (allWithin 0 (2 ^ bits - 1) (now (c2 .entry)) && allWithin 0 (2 ^ bits - 1) (now (c3 .entry)))) ⌝ }
+{
+    all_fit(c1, bits) & (all_fit(c2, bits) & all_fit(c3, bits))
 }

@@ -80,7 +80,7 @@ pub fn is_picture(c1: &[i32], c2: &[i32], c3: &[i32], depth: u32) -> bool
     requires { ⌜ depth ≤ 16 ⌝ }
     ensures { λ r. ⌜ r ≡ isPicture depth (triple (now (c1 .entry)) (now (c2 .entry)) (now (c3 .entry))) ⌝ }
 {
-    integers::three_within(c1, c2, c3, 0, max_sample(depth))
+    integers::three_fit(c1, c2, c3, depth)
 }
 
 // Whether each plane lies in its range of finished planes.
