@@ -10,7 +10,7 @@ use lib.IntN.{ℤ, pos, _+ℤ_, _*ℤ_}
 use Rattle.integers.specs.Lists.{at}
 use Rattle.integers.proofs.Linear.{flat, count, eq-lin}
 use Rattle.stage.specs.Filter.{weight, weightSum, weightedSum, windowSample, roundedMean, mean}
-use Rattle.kernel.specs.Window.{neighbourSum, interiorMean, rowSum, Indicator}
+use Rattle.kernel.specs.Window.{neighbourSum, interiorMean, rowSum, Indicator, WindowIn, windowMean}
 use Rattle.kernel.proofs.Windows.{about, Surroundings, window-weight, window-sample, weightSum-same, weightedSum-same}
 
 -- an indicator times one of two numbers that are the same where it is 1
@@ -124,7 +124,7 @@ module _ {w h x y left right above below : ℕ} (s : Surroundings w h x y left r
       (times-same above (line left right (g 0) (g 1) (g 2)) (rowSum a (i - above * w) left right) (s .on-top .most) above-row))
       (times-same below (line left right (g 6) (g 7) (g 8)) (rowSum a (i + below * w) left right) (s .at-bottom .most) below-row)
 
-  pub mean-by-rows : {centre : ℕ} → centre ≡ k + 1 → roundedMean rows (left + 1 + right + above * (left + 1 + right) + below * (left + 1 + right) + k) ≡ mean w h centre a i
+  mean-by-rows : {centre : ℕ} → centre ≡ k + 1 → roundedMean rows (left + 1 + right + above * (left + 1 + right) + below * (left + 1 + right) + k) ≡ mean w h centre a i
   unfolding mean
   mean-by-rows e =
       rw e
@@ -134,8 +134,11 @@ module _ {w h x y left right above below : ℕ} (s : Surroundings w h x y left r
 interior-sum : (w k i : ℕ) (a : List ℤ) → rowSum a i 1 1 +ℤ pos k *ℤ at a i +ℤ pos 1 *ℤ rowSum a (i - 1 * w) 1 1 +ℤ pos 1 *ℤ rowSum a (i + 1 * w) 1 1 ≡ neighbourSum w a i +ℤ pos (k + 1) *ℤ at a i
 interior-sum w k i a = let e : 1 * w ≡ w = omega arith in rw e (eq-lin (simp flat (simp count (omega arith))))
 
-indicated-one : {n m : ℕ} → n < m → Indicator n m 1
+pub indicated-one : {n m : ℕ} → n < m → Indicator n m 1
 indicated-one l = record { most = omega arith; on = λ o. l; off = λ p. omega arith }
+
+pub indicated-none : {n m : ℕ} → m ≤ n → Indicator n m 0
+indicated-none l = record { most = omega arith; on = λ o. omega arith; off = λ p. omega arith }
 
 interior-mean : (w h k x y : ℕ) (a : List ℤ) → 1 ≤ x → x + 1 < w → 1 ≤ y → y + 1 < h → interiorMean w (k + 1) a (y * w + x) ≡ mean w h (k + 1) a (y * w + x)
 unfolding interiorMean
@@ -153,36 +156,29 @@ interior-at w h centre y n a c y1 y2 l u =
     (subst (λ (i : ℕ). interiorMean w (centre - 1 + 1) a i ≡ mean w h (centre - 1 + 1) a i) e
     (interior-mean w h (centre - 1) (n - y * w) y a (omega arith) (omega arith) y1 y2))
 
--- ---- what the code's indices and weights stay below
-times-below : (b n m : ℕ) → b ≤ 1 → (1 ≤ b → n ≤ m) → b * n ≤ m
+-- ---- the window's indices and weights
+pub times-below : (b n m : ℕ) → b ≤ 1 → (1 ≤ b → n ≤ m) → b * n ≤ m
 times-below zero n m l f = omega arith
 times-below (suc b) n m l f = let e : suc b ≡ 1 = omega arith in rw e (omega (arith, f (omega arith)))
 
-pub record Bounds (w h x y left right above below : ℕ) : Type 0 where
-  pub first : left ≤ x
-  pub last : x + right < w
-  pub own : y * w + w ≤ w * h
-  pub over : above * w ≤ y * w
-  pub under : y * w + w + below * w ≤ w * h
-  pub weight-over : above * (left + 1 + right) ≤ 3
-  pub weight-under : below * (left + 1 + right) ≤ 3
+module _ {w h x y left right above below : ℕ} (s : Surroundings w h x y left right above below) {i : ℕ} (e : i ≡ y * w + x) where
+  pub window-in : {n : ℕ} → n ≡ w * h → WindowIn w n i left right above below
+  window-in f =
+      let a = times-below left 1 x (s .on-left .most) (s .on-left .on) in
+      let b = times-below right 1 (w - x - 1) (s .on-right .most) (λ o. let p = s .on-right .on o in omega arith) in
+      let c = times-below above w (y * w) (s .on-top .most) (λ o. let p = mul-le-mul-right w (s .on-top .on o) in omega arith) in
+      let d = times-below below w (w * h - y * w - w) (s .at-bottom .most) (λ o. let p = mul-le-mul-right w (s .at-bottom .on o) in let q = add-mul y 2 w in omega arith) in
+      let g = mul-le-mul-right w (s .row) in
+      let v = s .column in
+      record {
+        most-left = s .on-left .most;
+        most-right = s .on-right .most;
+        most-above = s .on-top .most;
+        most-below = s .at-bottom .most;
+        first = omega arith;
+        last = omega arith;
+      }
 
-pub bounds : {w h x y left right above below : ℕ} → Surroundings w h x y left right above below → Bounds w h x y left right above below
-bounds {w} {h} {x} {y} {left} {right} {above} {below} s =
-    let a = times-below left 1 x (s .on-left .most) (s .on-left .on) in
-    let b = times-below right 1 (w - x - 1) (s .on-right .most) (λ o. let p = s .on-right .on o in omega arith) in
-    let c = mul-le-mul-right w (s .row) in
-    let d = suc-mul y w in
-    let e = times-below below w (w * h - y * w - w) (s .at-bottom .most) (λ o. let p = mul-le-mul-right w (s .at-bottom .on o) in let q = add-mul y 2 w in omega arith) in
-    let m = s .on-left .most in
-    let n = s .on-right .most in
-    let v = s .column in
-    record {
-      first = omega arith;
-      last = omega arith;
-      own = omega arith;
-      over = times-below above w (y * w) (s .on-top .most) (λ o. let p = mul-le-mul-right w (s .on-top .on o) in omega arith);
-      under = omega arith;
-      weight-over = times-below above (left + 1 + right) 3 (s .on-top .most) (λ o. omega arith);
-      weight-under = times-below below (left + 1 + right) 3 (s .at-bottom .most) (λ o. omega arith);
-    }
+  pub window-mean : (centre : ℕ) (a : List ℤ) → 1 ≤ centre → windowMean w left right above below centre a i ≡ mean w h centre a i
+  unfolding windowMean
+  window-mean centre a l = rw e (mean-by-rows s (centre - 1) a (omega arith))

@@ -7,3 +7,4 @@ pub mod Windows
 pub mod Borders
 pub mod Means
 pub mod Interior
+pub mod Rows

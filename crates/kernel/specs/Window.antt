@@ -38,3 +38,19 @@ pub record Indicator (n m r : ℕ) : Type 0 where
 -- a row of the window with centre i: left and right are 1 where there is such a column, and else 0
 abbrev pub rowSum : List ℤ → ℕ → ℕ → ℕ → ℤ
 rowSum a i left right = pos left *ℤ at a (i - left) +ℤ at a i +ℤ pos right *ℤ at a (i + right)
+
+-- the window of index i lies in a plane of n samples and width w: above and below are 1 where there is such a row, and else 0
+pub record WindowIn (w n i left right above below : ℕ) : Type 0 where
+  pub most-left : left ≤ 1
+  pub most-right : right ≤ 1
+  pub most-above : above ≤ 1
+  pub most-below : below ≤ 1
+  pub first : above * w + left ≤ i
+  pub last : i + below * w + right < n
+
+-- its mean, for a centre weight
+unfoldable pub windowMean : ℕ → ℕ → ℕ → ℕ → ℕ → ℕ → List ℤ → ℕ → ℤ
+windowMean w left right above below centre a i =
+    roundedMean
+    (rowSum a i left right +ℤ pos (centre - 1) *ℤ at a i +ℤ pos above *ℤ rowSum a (i - above * w) left right +ℤ pos below *ℤ rowSum a (i + below * w) left right)
+    (left + 1 + right + above * (left + 1 + right) + below * (left + 1 + right) + (centre - 1))

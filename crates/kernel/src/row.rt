@@ -7,7 +7,7 @@ ghost use Rattle.stage.specs.Filter.{mean};
 ghost use Rattle.kernel.specs.Pass.{applied};
 ghost use Rattle.kernel.specs.Part.{PartIn};
 ghost use Rattle.kernel.specs.Centre.{CentreWeight};
-ghost use Rattle.kernel.specs.Window.{interiorMean, windowless};
+ghost use Rattle.kernel.specs.Window.{interiorMean, windowless, WindowIn, windowMean};
 use crate::centre::Centre;
 use crate::pass::ADD;
 use crate::pass::ADD_HALF;
@@ -21,6 +21,7 @@ use crate::pass::SUBTRACT_HALF;
 use crate::pass::apply;
 use crate::window::interior_mean;
 use crate::window::mean_at;
+use crate::window::window_mean;
 use crate::window::windowless_value;
 
 // Filters 0 and 12: indices from .. to − 1.
@@ -109,6 +110,30 @@ fn lift_interior(
     }
 }
 
+// The sample at index i, by the mean of the window's positions that are present.
+fn lift_sample(
+    c: &mut [i32],
+    a: &[i32],
+    width: usize,
+    i: usize,
+    left: usize,
+    right: usize,
+    above: usize,
+    below: usize,
+    weight: u32,
+    pass: u32,
+)
+    requires { ⌜ (i < length (now c)) × (pass ≤ 8) ⌝ }
+    requires { ⌜ WindowIn width (length (now a)) i left right above below ⌝ }
+    requires { ⌜ AllIn 524288 524288 (now a) ⌝ }
+    requires { ⌜ PartIn 4194304 i (i + 1) (now c) ⌝ }
+    requires { ⌜ (1 ≤ weight) × (weight ≤ 1024) ⌝ }
+    ensures { λ _. ⌜ Changed (λ n x. applied pass x (windowMean width left right above below weight (now (a .entry)) n)) i (i + 1) (now (c .entry)) (now (c .exit)) ⌝ }
+{
+    let f = window_mean(a, width, i, left, right, above, below, weight);
+    c[i] = apply(pass, c[i], f);
+}
+
 // Means at columns from .. to − 1 of row y, border or not.
 fn lift_border(
     c: &mut [i32],
@@ -137,6 +162,30 @@ fn lift_border(
     }
 }
 
+// Means over row y, which is neither the first nor the last.
+fn lift_inner(
+    c: &mut [i32],
+    a: &[i32],
+    width: usize,
+    height: usize,
+    y: usize,
+    centre: Centre,
+    pass: u32,
+)
+    requires { ⌜ (2 < width) × (0 < y) × (y + 1 < height) × (pass ≤ 8) ⌝ }
+    requires { ⌜ (length (now a) ≡ width * height) × (length (now c) ≡ width * height) ⌝ }
+    requires { ⌜ AllIn 524288 524288 (now a) ⌝ }
+    requires { ⌜ PartIn 4194304 (y * width) (y * width + width) (now c) ⌝ }
+    requires { ⌜ CentreWeight (centre .weight) (centre .offset) (centre .reciprocal) ⌝ }
+    ensures { λ _. ⌜ Changed (λ i x. applied pass x (mean width height (centre .weight) (now (a .entry)) i)) (y * width) (y * width + width) (now (c .entry)) (now (c .exit)) ⌝ }
+{
+    let start = y * width;
+    let last = start + width - 1;
+    lift_sample(c, a, width, start, 0, 1, 1, 1, centre.weight, pass);
+    lift_interior(c, a, width, centre, pass, start + 1, last);
+    lift_sample(c, a, width, last, 1, 0, 1, 1, centre.weight, pass);
+}
+
 // Means over row y.
 pub fn lift_row(
     c: &mut [i32],
@@ -154,17 +203,13 @@ pub fn lift_row(
     requires { ⌜ CentreWeight (centre .weight) (centre .offset) (centre .reciprocal) ⌝ }
     ensures { λ _. ⌜ Changed (λ i x. applied pass x (mean width height (centre .weight) (now (a .entry)) i)) (y * width) (y * width + width) (now (c .entry)) (now (c .exit)) ⌝ }
 {
-    let weight = centre.weight;
     if 0 < y {
         if y + 1 < height {
             if 2 < width {
-                let start = y * width;
-                lift_border(c, a, width, height, y, weight, pass, 0, 1);
-                lift_interior(c, a, width, centre, pass, start + 1, start + width - 1);
-                lift_border(c, a, width, height, y, weight, pass, width - 1, width);
+                lift_inner(c, a, width, height, y, centre, pass);
                 return;
             }
         }
     }
-    lift_border(c, a, width, height, y, weight, pass, 0, width);
+    lift_border(c, a, width, height, y, centre.weight, pass, 0, width);
 }

@@ -7,7 +7,7 @@ ghost use Rattle.integers.specs.Lists.{at, AllIn};
 ghost use Rattle.stage.specs.Filter.{mean};
 ghost use Rattle.kernel.specs.Part.{ValueIn};
 ghost use Rattle.kernel.specs.Centre.{CentreWeight};
-ghost use Rattle.kernel.specs.Window.{Offset, threeSum, neighbourSum, interiorMean, windowless, Indicator, rowSum};
+ghost use Rattle.kernel.specs.Window.{Offset, threeSum, neighbourSum, interiorMean, windowless, Indicator, rowSum, WindowIn, windowMean};
 use crate::centre::Centre;
 use crate::centre::eighths;
 
@@ -93,7 +93,32 @@ pub fn row_sum_if(present: usize, plane: &[i32], i: usize, left: usize, right: u
     row_sum(plane, i, left, right)
 }
 
-// The mean of the window at any sample: only the positions inside the picture count.
+// The mean of the window's positions that are present: left, right, above and below are 1 where there is such a column or row, else 0.
+pub fn window_mean(
+    plane: &[i32],
+    width: usize,
+    i: usize,
+    left: usize,
+    right: usize,
+    above: usize,
+    below: usize,
+    centre: u32,
+) -> i32
+    requires { ⌜ WindowIn width (length (now plane)) i left right above below ⌝ }
+    requires { ⌜ AllIn 524288 524288 (now plane) ⌝ }
+    requires { ⌜ (1 ≤ centre) × (centre ≤ 1024) ⌝ }
+    ensures { λ r. ⌜ ValueIn 524288 (windowMean width left right above below centre (now (plane .entry)) i) r ⌝ }
+{
+    let row = left + 1 + right;
+    let weight = ((row + above * row + below * row) as u32) + (centre - 1);
+    let sum = row_sum(plane, i, left, right)
+        + (centre - 1) * offset_sample(plane, i)
+        + row_sum_if(above, plane, i - above * width, left, right)
+        + row_sum_if(below, plane, i + below * width, left, right);
+    (((sum + weight / 2) / weight) as i32) - OFFSET
+}
+
+// The mean at any sample: only the positions inside the picture count.
 pub fn mean_at(plane: &[i32], width: usize, height: usize, x: usize, y: usize, centre: u32) -> i32
     requires { ⌜ (x < width) × (y < height) ⌝ }
     requires { ⌜ length (now plane) ≡ width * height ⌝ }
@@ -105,14 +130,16 @@ pub fn mean_at(plane: &[i32], width: usize, height: usize, x: usize, y: usize, c
     let right = indicator(x + 1, width);
     let above = indicator(0, y);
     let below = indicator(y + 1, height);
-    let i = y * width + x;
-    let row = left + 1 + right;
-    let weight = ((row + above * row + below * row) as u32) + (centre - 1);
-    let sum = row_sum(plane, i, left, right)
-        + (centre - 1) * offset_sample(plane, i)
-        + row_sum_if(above, plane, i - above * width, left, right)
-        + row_sum_if(below, plane, i + below * width, left, right);
-    (((sum + weight / 2) / weight) as i32) - OFFSET
+    window_mean(
+        plane,
+        width,
+        y * width + x,
+        left,
+        right,
+        above,
+        below,
+        centre,
+    )
 }
 
 // Filter 0 gives the sample itself, filter 12 gives 0.

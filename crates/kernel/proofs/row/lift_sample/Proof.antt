@@ -1,0 +1,61 @@
+use borrow.Author.Needs.{needs}
+use mathlib.Core.Path.{refl, ap, _∙_}
+use native.Mathlib.Omega.{arith}
+use lib.Dec.{lit≤, lit<}
+use mir.Syntax.{w32}
+use mir.Facts.{toZ-ofZ}
+use denote.Ref.{now}
+use Rattle.integers.specs.Parts.{In}
+use Rattle.integers.specs.Lists.{at}
+use Rattle.integers.proofs.Ranges.{in-fits}
+use Rattle.integers.proofs.Changes.{changed-none, changed-more}
+use Rattle.kernel.specs.Pass.{applied}
+use Rattle.kernel.proofs.row.lift_sample.Statement.{statement}
+use Rattle.kernel.proofs.row.lift_sample.Tie as tie
+
+own : (s : tie.Start) → In 4194304 4194304 (at (now (s .args .c)) (s .args .i))
+own s = s .pre .1 .1 .1 .0 .each (s .args .i) (omega arith) (omega arith)
+
+window-mean-requires : tie.Need-window-mean-requires
+window-mean-requires c κs = search needs
+
+mul-apply : tie.Need-mul-apply
+mul-apply c = search needs
+
+slice-copy-out-apply : tie.Need-slice-copy-out-apply
+slice-copy-out-apply c = search needs
+
+apply-requires : tie.Need-apply-requires
+apply-requires c κs = let x = own (c .before .before) in search needs
+
+mul-t16 : tie.Need-mul-t16
+mul-t16 c = search needs
+
+slice-set-from-c : tie.Need-slice-set-from-c
+slice-set-from-c c = search needs
+
+same-length : tie.Need-same-length
+same-length c = search needs
+
+returns : tie.Need-returns
+returns c =
+    let s = c .before .before .before in
+    let r = c .before .before .window-mean .ensures in
+    let f = in-fits {w = w32} (own s) (lit≤ tt) (lit< tt) in
+    let g = in-fits {w = w32} (r .range) (lit≤ tt) (lit< tt) in
+    let e = simp (toZ-ofZ, f, g) at (c .apply .ensures) in
+    let h = e ∙ ap (applied (s .args .pass) (at (now (s .args .c)) (s .args .i))) (r .is) in
+    changed-more _ (changed-none _ _ refl) (omega arith) (omega arith) (search needs) refl
+
+pub lift-sample-spec : {M : Type 1} → statement M
+lift-sample-spec =
+    tie.close
+    (tie.spec
+    window-mean-requires
+    mul-apply
+    slice-copy-out-apply
+    apply-requires
+    mul-t16
+    slice-set-from-c
+    same-length
+    returns)
