@@ -1,8 +1,8 @@
 -- The mean at any sample, by rows of the window, and in the interior, where all nine positions are inside.
-use mathlib.Core.Path.{_≡_, refl, sym, ap, ap₂, subst, _∙_}
+use mathlib.Core.Path.{_≡_, sym, ap, ap₂, _∙_}
 use mathlib.Core.Bool.{cond}
 use mathlib.Core.List.{List}
-use Prim.Native.Nat.{ℕ, zero, suc, _+_, _*_, _-_, _/_, _%_, _≤_, _<_}
+use Prim.Native.Nat.{ℕ, zero, suc, _+_, _*_, _-_, _/_, _%_, _≤_}
 use native.Mathlib.Omega.{arith}
 use native.Mathlib.Nat.{mul-le-mul-right, add-mul, suc-mul}
 use lib.Dec.{eqb}
@@ -10,7 +10,7 @@ use lib.IntN.{ℤ, pos, _+ℤ_, _*ℤ_}
 use Rattle.integers.specs.Lists.{at}
 use Rattle.integers.proofs.Linear.{flat, count, eq-lin}
 use Rattle.stage.specs.Filter.{weight, weightSum, weightedSum, windowSample, roundedMean, mean}
-use Rattle.kernel.specs.Window.{neighbourSum, interiorMean, rowSum, Indicator, WindowIn, windowMean}
+use Rattle.kernel.specs.Window.{neighbourSum, interiorMean, rowSum, WindowIn, windowMean}
 use Rattle.kernel.proofs.Windows.{about, Surroundings, window-weight, window-sample, weightSum-same, weightedSum-same}
 
 -- an indicator times one of two numbers that are the same where it is 1
@@ -134,27 +134,12 @@ module _ {w h x y left right above below : ℕ} (s : Surroundings w h x y left r
 interior-sum : (w k i : ℕ) (a : List ℤ) → rowSum a i 1 1 +ℤ pos k *ℤ at a i +ℤ pos 1 *ℤ rowSum a (i - 1 * w) 1 1 +ℤ pos 1 *ℤ rowSum a (i + 1 * w) 1 1 ≡ neighbourSum w a i +ℤ pos (k + 1) *ℤ at a i
 interior-sum w k i a = let e : 1 * w ≡ w = omega arith in rw e (eq-lin (simp flat (simp count (omega arith))))
 
-pub indicated-one : {n m : ℕ} → n < m → Indicator n m 1
-indicated-one l = record { most = omega arith; on = λ o. l; off = λ p. omega arith }
-
-pub indicated-none : {n m : ℕ} → m ≤ n → Indicator n m 0
-indicated-none l = record { most = omega arith; on = λ o. omega arith; off = λ p. omega arith }
-
-interior-mean : (w h k x y : ℕ) (a : List ℤ) → 1 ≤ x → x + 1 < w → 1 ≤ y → y + 1 < h → interiorMean w (k + 1) a (y * w + x) ≡ mean w h (k + 1) a (y * w + x)
-unfolding interiorMean
-interior-mean w h k x y a x1 x2 y1 y2 =
-    let s : Surroundings w h x y 1 1 1 1 = record { column = omega arith; row = omega arith; on-left = indicated-one x1; on-right = indicated-one x2; on-top = indicated-one y1; at-bottom = indicated-one y2 } in
-    let n : 8 + (k + 1) ≡ 1 + 1 + 1 + 1 * (1 + 1 + 1) + 1 * (1 + 1 + 1) + k = omega arith in
-    ap₂ roundedMean (sym (interior-sum w k (y * w + x) a)) n ∙ mean-by-rows s k a refl
-
--- at the indices of row y but its first and last
-pub interior-at : (w h centre y n : ℕ) (a : List ℤ) → 1 ≤ centre → 1 ≤ y → y + 1 < h → y * w + 1 ≤ n → n + 1 < y * w + w → interiorMean w centre a n ≡ mean w h centre a n
-interior-at w h centre y n a c y1 y2 l u =
-    let e : y * w + (n - y * w) ≡ n = omega arith in
-    let f : centre - 1 + 1 ≡ centre = omega arith in
-    subst (λ (m : ℕ). interiorMean w m a n ≡ mean w h m a n) f
-    (subst (λ (i : ℕ). interiorMean w (centre - 1 + 1) a i ≡ mean w h (centre - 1 + 1) a i) e
-    (interior-mean w h (centre - 1) (n - y * w) y a (omega arith) (omega arith) y1 y2))
+pub interior-window : (w centre n : ℕ) (a : List ℤ) → 1 ≤ centre → interiorMean w centre a n ≡ windowMean w 1 1 1 1 centre a n
+unfolding interiorMean windowMean
+interior-window w centre n a l =
+    let e : centre - 1 + 1 ≡ centre = omega arith in
+    let m : 8 + centre ≡ 1 + 1 + 1 + 1 * (1 + 1 + 1) + 1 * (1 + 1 + 1) + (centre - 1) = omega arith in
+    ap₂ roundedMean (sym (rw e at (interior-sum w (centre - 1) n a))) m
 
 -- ---- the window's indices and weights
 pub times-below : (b n m : ℕ) → b ≤ 1 → (1 ≤ b → n ≤ m) → b * n ≤ m

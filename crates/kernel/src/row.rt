@@ -1,4 +1,5 @@
-// Passes over a part of a row. Each loop's pass is a literal one call above it, so that every pass has a loop of its own.
+// Passes over a part of a row. Away from the borders each loop's pass is a literal one call above it, so that every pass has a loop of
+// its own.
 ghost use mathlib.Core.Path.{_≡_};
 ghost use Prim.Native.Nat.{_≤_, _<_, _+_, _*_};
 ghost use lib.ListN.{length};
@@ -7,7 +8,7 @@ ghost use Rattle.stage.specs.Filter.{mean};
 ghost use Rattle.kernel.specs.Pass.{applied};
 ghost use Rattle.kernel.specs.Part.{PartIn};
 ghost use Rattle.kernel.specs.Centre.{CentreWeight};
-ghost use Rattle.kernel.specs.Window.{interiorMean, windowless, WindowIn, windowMean};
+ghost use Rattle.kernel.specs.Window.{interiorMean, windowless, Indicator, WindowIn, windowMean};
 use crate::centre::Centre;
 use crate::pass::ADD;
 use crate::pass::ADD_HALF;
@@ -134,32 +135,56 @@ fn lift_sample(
     c[i] = apply(pass, c[i], f);
 }
 
-// Means at columns from .. to − 1 of row y, border or not.
-fn lift_border(
+// Means at the indices from .. to − 1 of a first or last row, without its corners.
+fn edge_loop(
     c: &mut [i32],
     a: &[i32],
     width: usize,
-    height: usize,
-    y: usize,
+    above: usize,
+    below: usize,
     weight: u32,
     pass: u32,
     from: usize,
     to: usize,
 )
-    requires { ⌜ (from ≤ to) × (to ≤ width) × (y < height) × (pass ≤ 8) ⌝ }
+    requires { ⌜ (above ≤ 1) × (below ≤ 1) × (above * width + 1 ≤ from) × (to + below * width < length (now a)) ⌝ }
+    requires { ⌜ (from ≤ to) × (to ≤ length (now c)) × (pass ≤ 8) ⌝ }
+    requires { ⌜ AllIn 524288 524288 (now a) ⌝ }
+    requires { ⌜ PartIn 4194304 from to (now c) ⌝ }
+    requires { ⌜ (1 ≤ weight) × (weight ≤ 1024) ⌝ }
+    ensures { λ _. ⌜ Changed (λ i x. applied pass x (windowMean width 1 1 above below weight (now (a .entry)) i)) from to (now (c .entry)) (now (c .exit)) ⌝ }
+{
+    let mut i = from;
+    while i < to {
+        lift_sample(c, a, width, i, 1, 1, above, below, weight, pass);
+        i += 1;
+    }
+}
+
+// Means over row y, the first or the last of several: above and below are literals one call above.
+fn lift_edge(
+    c: &mut [i32],
+    a: &[i32],
+    width: usize,
+    height: usize,
+    y: usize,
+    above: usize,
+    below: usize,
+    weight: u32,
+    pass: u32,
+)
+    requires { ⌜ (1 < width) × (y < height) × Indicator 0 y above × Indicator (y + 1) height below × (pass ≤ 8) ⌝ }
     requires { ⌜ (length (now a) ≡ width * height) × (length (now c) ≡ width * height) ⌝ }
     requires { ⌜ AllIn 524288 524288 (now a) ⌝ }
-    requires { ⌜ PartIn 4194304 (y * width + from) (y * width + to) (now c) ⌝ }
+    requires { ⌜ PartIn 4194304 (y * width) (y * width + width) (now c) ⌝ }
     requires { ⌜ (1 ≤ weight) × (weight ≤ 1024) ⌝ }
-    ensures { λ _. ⌜ Changed (λ i x. applied pass x (mean width height weight (now (a .entry)) i)) (y * width + from) (y * width + to) (now (c .entry)) (now (c .exit)) ⌝ }
+    ensures { λ _. ⌜ Changed (λ i x. applied pass x (mean width height weight (now (a .entry)) i)) (y * width) (y * width + width) (now (c .entry)) (now (c .exit)) ⌝ }
 {
-    let mut x = from;
-    while x < to {
-        let i = y * width + x;
-        let f = mean_at(a, width, height, x, y, weight);
-        c[i] = apply(pass, c[i], f);
-        x += 1;
-    }
+    let start = y * width;
+    let last = start + width - 1;
+    lift_sample(c, a, width, start, 0, 1, above, below, weight, pass);
+    edge_loop(c, a, width, above, below, weight, pass, start + 1, last);
+    lift_sample(c, a, width, last, 1, 0, above, below, weight, pass);
 }
 
 // Means over row y, which is neither the first nor the last.
@@ -172,7 +197,7 @@ fn lift_inner(
     centre: Centre,
     pass: u32,
 )
-    requires { ⌜ (2 < width) × (0 < y) × (y + 1 < height) × (pass ≤ 8) ⌝ }
+    requires { ⌜ (1 < width) × (0 < y) × (y + 1 < height) × (pass ≤ 8) ⌝ }
     requires { ⌜ (length (now a) ≡ width * height) × (length (now c) ≡ width * height) ⌝ }
     requires { ⌜ AllIn 524288 524288 (now a) ⌝ }
     requires { ⌜ PartIn 4194304 (y * width) (y * width + width) (now c) ⌝ }
@@ -184,6 +209,32 @@ fn lift_inner(
     lift_sample(c, a, width, start, 0, 1, 1, 1, centre.weight, pass);
     lift_interior(c, a, width, centre, pass, start + 1, last);
     lift_sample(c, a, width, last, 1, 0, 1, 1, centre.weight, pass);
+}
+
+// Means over row y of any picture.
+fn lift_border(
+    c: &mut [i32],
+    a: &[i32],
+    width: usize,
+    height: usize,
+    y: usize,
+    weight: u32,
+    pass: u32,
+)
+    requires { ⌜ (y < height) × (pass ≤ 8) ⌝ }
+    requires { ⌜ (length (now a) ≡ width * height) × (length (now c) ≡ width * height) ⌝ }
+    requires { ⌜ AllIn 524288 524288 (now a) ⌝ }
+    requires { ⌜ PartIn 4194304 (y * width) (y * width + width) (now c) ⌝ }
+    requires { ⌜ (1 ≤ weight) × (weight ≤ 1024) ⌝ }
+    ensures { λ _. ⌜ Changed (λ i x. applied pass x (mean width height weight (now (a .entry)) i)) (y * width) (y * width + width) (now (c .entry)) (now (c .exit)) ⌝ }
+{
+    let mut x = 0;
+    while x < width {
+        let i = y * width + x;
+        let f = mean_at(a, width, height, x, y, weight);
+        c[i] = apply(pass, c[i], f);
+        x += 1;
+    }
 }
 
 // Means over row y.
@@ -203,13 +254,20 @@ pub fn lift_row(
     requires { ⌜ CentreWeight (centre .weight) (centre .offset) (centre .reciprocal) ⌝ }
     ensures { λ _. ⌜ Changed (λ i x. applied pass x (mean width height (centre .weight) (now (a .entry)) i)) (y * width) (y * width + width) (now (c .entry)) (now (c .exit)) ⌝ }
 {
-    if 0 < y {
-        if y + 1 < height {
-            if 2 < width {
+    let weight = centre.weight;
+    if 1 < width {
+        if 0 < y {
+            if y + 1 < height {
                 lift_inner(c, a, width, height, y, centre, pass);
                 return;
             }
+            lift_edge(c, a, width, height, y, 1, 0, weight, pass);
+            return;
+        }
+        if 1 < height {
+            lift_edge(c, a, width, height, y, 0, 1, weight, pass);
+            return;
         }
     }
-    lift_border(c, a, width, height, y, centre.weight, pass, 0, width);
+    lift_border(c, a, width, height, y, weight, pass);
 }

@@ -1,32 +1,21 @@
 use borrow.Author.Needs.{needs}
 use mathlib.Core.Path.{refl, ap}
 use native.Mathlib.Omega.{arith}
-use native.Mathlib.Nat.{mul-le-mul-right, add-mul}
-use Prim.Native.Nat.{ℕ, _+_, _-_, _*_, _≤_}
+use lib.ListN.{length}
 use denote.Ref.{now}
 use Rattle.integers.proofs.Changes.{changed-as}
 use Rattle.kernel.specs.Pass.{applied}
 use Rattle.kernel.proofs.Part.{part-of, part-after}
-use Rattle.kernel.proofs.Borders.{indicated-one, window-in, interior-at}
-use Rattle.kernel.proofs.Rows.{Row, at-first, at-last, row-changed}
+use Rattle.kernel.proofs.Borders.{interior-window}
+use Rattle.kernel.proofs.Rows.{indicated-one, Row, Ends, ends, row-changed}
 use Rattle.kernel.proofs.row.lift_inner.Statement.{statement}
 use Rattle.kernel.proofs.row.lift_inner.Tie as tie
 
 row : (s : tie.Start) → Row (s .args .width) (s .args .height) (s .args .y) 1 1
 row s = let p = s .pre .0 in record { wide = p .0; row = omega arith; on-top = indicated-one (p .1); at-bottom = indicated-one (p .2) }
 
--- the rows above and below are in the plane
-record Known (s : tie.Start) : Type 0 where
-  above : s .args .width ≤ s .args .y * s .args .width
-  below : s .args .y * s .args .width + 2 * s .args .width ≤ s .args .width * s .args .height
-
-known : (s : tie.Start) → Known s
-known s =
-    let w = s .args .width in
-    let l = mul-le-mul-right w (s .pre .0 .1) in
-    let m = mul-le-mul-right w (s .pre .0 .2) in
-    let n = add-mul (s .args .y) 2 w in
-    record { above = omega arith; below = omega arith }
+known : (s : tie.Start) → Ends (s .args .width) (length (now (s .args .a))) (s .args .y) 1 1
+known s = ends (row s) (s .pre .1 .0 .0)
 
 mul-start : tie.Need-mul-start
 mul-start c = let k = known c in omega arith
@@ -42,7 +31,7 @@ lift-sample-requires c κs =
     let b = c .before in
     let p = b .pre .1 in
     let k = known b in
-    ((omega arith, b .pre .0 .3), (window-in (at-first (row b)) (omega arith) (p .0 .0), (p .1 .0, (part-of (p .1 .1 .0) (omega arith) (omega arith), (p .1 .1 .1 .least, p .1 .1 .1 .most)))))
+    ((omega arith, b .pre .0 .3), (omega arith, (p .1 .0, (part-of (p .1 .1 .0) (omega arith) (omega arith), (p .1 .1 .1 .least, p .1 .1 .1 .most)))))
 
 add-lift-interior : tie.Need-add-lift-interior
 add-lift-interior c = let k = known (c .before .before .before .before) in omega arith
@@ -65,7 +54,7 @@ lift-sample-requires-2 c κs =
     let k = known b in
     let l = u .long in
     let m = v .long in
-    ((omega arith, b .pre .0 .3), (window-in (at-last (row b)) (omega arith) (p .0 .0), (p .1 .0, (part-after v (part-after u (part-of (p .1 .1 .0) (omega arith) (omega arith)) (omega arith)) (omega arith), (p .1 .1 .1 .least, p .1 .1 .1 .most)))))
+    ((omega arith, b .pre .0 .3), (omega arith, (p .1 .0, (part-after v (part-after u (part-of (p .1 .1 .0) (omega arith) (omega arith)) (omega arith)) (omega arith), (p .1 .1 .1 .least, p .1 .1 .1 .most)))))
 
 same-length : tie.Need-same-length
 same-length c = search needs
@@ -76,7 +65,7 @@ returns c =
     let s = b .args in
     let l = b .pre .1 .1 .1 .1 .least in
     row-changed (row b) (s .pass) (s .centre .weight) (now (s .a)) l (c .before .before .before .before .before .before .before .lift-sample .ensures)
-    (changed-as _ _ (c .before .before .before .before .lift-interior .ensures) refl refl (λ n x p q. ap (applied (s .pass) x) (interior-at (s .width) (s .height) (s .centre .weight) (s .y) n (now (s .a)) l (omega arith) (omega arith) (omega arith) (omega arith))))
+    (changed-as _ _ (c .before .before .before .before .lift-interior .ensures) refl refl (λ n x p q. ap (applied (s .pass) x) (interior-window (s .width) (s .centre .weight) n (now (s .a)) l)))
     (c .before .lift-sample2 .ensures)
 
 pub lift-inner-spec : {M : Type 1} → statement M
