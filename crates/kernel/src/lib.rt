@@ -9,6 +9,7 @@ ghost use Rattle.kernel.specs.Pass.{applied};
 ghost use Rattle.kernel.specs.Part.{ValueIn};
 ghost use Rattle.kernel.specs.Centre.{CentreWeight};
 
+mod border;
 mod centre;
 pub mod pass;
 mod row;

@@ -8,7 +8,10 @@ ghost use Rattle.stage.specs.Filter.{mean};
 ghost use Rattle.kernel.specs.Pass.{applied};
 ghost use Rattle.kernel.specs.Part.{PartIn};
 ghost use Rattle.kernel.specs.Centre.{CentreWeight};
-ghost use Rattle.kernel.specs.Window.{interiorMean, windowless, Indicator, WindowIn, windowMean};
+ghost use Rattle.kernel.specs.Window.{interiorMean, windowless};
+use crate::border::lift_border;
+use crate::border::lift_edge;
+use crate::border::lift_sample;
 use crate::centre::Centre;
 use crate::pass::ADD;
 use crate::pass::ADD_HALF;
@@ -21,8 +24,6 @@ use crate::pass::SUBTRACT;
 use crate::pass::SUBTRACT_HALF;
 use crate::pass::apply;
 use crate::window::interior_mean;
-use crate::window::mean_at;
-use crate::window::window_mean;
 use crate::window::windowless_value;
 
 // Filters 0 and 12: indices from .. to − 1.
@@ -111,82 +112,6 @@ fn lift_interior(
     }
 }
 
-// The sample at index i, by the mean of the window's positions that are present.
-fn lift_sample(
-    c: &mut [i32],
-    a: &[i32],
-    width: usize,
-    i: usize,
-    left: usize,
-    right: usize,
-    above: usize,
-    below: usize,
-    weight: u32,
-    pass: u32,
-)
-    requires { ⌜ (i < length (now c)) × (pass ≤ 8) ⌝ }
-    requires { ⌜ WindowIn width (length (now a)) i left right above below ⌝ }
-    requires { ⌜ AllIn 524288 524288 (now a) ⌝ }
-    requires { ⌜ PartIn 4194304 i (i + 1) (now c) ⌝ }
-    requires { ⌜ (1 ≤ weight) × (weight ≤ 1024) ⌝ }
-    ensures { λ _. ⌜ Changed (λ n x. applied pass x (windowMean width left right above below weight (now (a .entry)) n)) i (i + 1) (now (c .entry)) (now (c .exit)) ⌝ }
-{
-    let f = window_mean(a, width, i, left, right, above, below, weight);
-    c[i] = apply(pass, c[i], f);
-}
-
-// Means at the indices from .. to − 1 of a first or last row, without its corners.
-fn edge_loop(
-    c: &mut [i32],
-    a: &[i32],
-    width: usize,
-    above: usize,
-    below: usize,
-    weight: u32,
-    pass: u32,
-    from: usize,
-    to: usize,
-)
-    requires { ⌜ (above ≤ 1) × (below ≤ 1) × (above * width + 1 ≤ from) × (to + below * width < length (now a)) ⌝ }
-    requires { ⌜ (from ≤ to) × (to ≤ length (now c)) × (pass ≤ 8) ⌝ }
-    requires { ⌜ AllIn 524288 524288 (now a) ⌝ }
-    requires { ⌜ PartIn 4194304 from to (now c) ⌝ }
-    requires { ⌜ (1 ≤ weight) × (weight ≤ 1024) ⌝ }
-    ensures { λ _. ⌜ Changed (λ i x. applied pass x (windowMean width 1 1 above below weight (now (a .entry)) i)) from to (now (c .entry)) (now (c .exit)) ⌝ }
-{
-    let mut i = from;
-    while i < to {
-        lift_sample(c, a, width, i, 1, 1, above, below, weight, pass);
-        i += 1;
-    }
-}
-
-// Means over row y, the first or the last of several: above and below are literals one call above.
-fn lift_edge(
-    c: &mut [i32],
-    a: &[i32],
-    width: usize,
-    height: usize,
-    y: usize,
-    above: usize,
-    below: usize,
-    weight: u32,
-    pass: u32,
-)
-    requires { ⌜ (1 < width) × (y < height) × Indicator 0 y above × Indicator (y + 1) height below × (pass ≤ 8) ⌝ }
-    requires { ⌜ (length (now a) ≡ width * height) × (length (now c) ≡ width * height) ⌝ }
-    requires { ⌜ AllIn 524288 524288 (now a) ⌝ }
-    requires { ⌜ PartIn 4194304 (y * width) (y * width + width) (now c) ⌝ }
-    requires { ⌜ (1 ≤ weight) × (weight ≤ 1024) ⌝ }
-    ensures { λ _. ⌜ Changed (λ i x. applied pass x (mean width height weight (now (a .entry)) i)) (y * width) (y * width + width) (now (c .entry)) (now (c .exit)) ⌝ }
-{
-    let start = y * width;
-    let last = start + width - 1;
-    lift_sample(c, a, width, start, 0, 1, above, below, weight, pass);
-    edge_loop(c, a, width, above, below, weight, pass, start + 1, last);
-    lift_sample(c, a, width, last, 1, 0, above, below, weight, pass);
-}
-
 // Means over row y, which is neither the first nor the last.
 fn lift_inner(
     c: &mut [i32],
@@ -209,32 +134,6 @@ fn lift_inner(
     lift_sample(c, a, width, start, 0, 1, 1, 1, centre.weight, pass);
     lift_interior(c, a, width, centre, pass, start + 1, last);
     lift_sample(c, a, width, last, 1, 0, 1, 1, centre.weight, pass);
-}
-
-// Means over row y of any picture.
-fn lift_border(
-    c: &mut [i32],
-    a: &[i32],
-    width: usize,
-    height: usize,
-    y: usize,
-    weight: u32,
-    pass: u32,
-)
-    requires { ⌜ (y < height) × (pass ≤ 8) ⌝ }
-    requires { ⌜ (length (now a) ≡ width * height) × (length (now c) ≡ width * height) ⌝ }
-    requires { ⌜ AllIn 524288 524288 (now a) ⌝ }
-    requires { ⌜ PartIn 4194304 (y * width) (y * width + width) (now c) ⌝ }
-    requires { ⌜ (1 ≤ weight) × (weight ≤ 1024) ⌝ }
-    ensures { λ _. ⌜ Changed (λ i x. applied pass x (mean width height weight (now (a .entry)) i)) (y * width) (y * width + width) (now (c .entry)) (now (c .exit)) ⌝ }
-{
-    let mut x = 0;
-    while x < width {
-        let i = y * width + x;
-        let f = mean_at(a, width, height, x, y, weight);
-        c[i] = apply(pass, c[i], f);
-        x += 1;
-    }
 }
 
 // Means over row y.

@@ -4,8 +4,8 @@ use lib.ListN.{length}
 use denote.Ref.{now}
 use Rattle.kernel.proofs.Part.{part-of, part-after}
 use Rattle.kernel.proofs.Rows.{Row, Ends, ends, row-changed}
-use Rattle.kernel.proofs.row.lift_edge.Statement.{statement}
-use Rattle.kernel.proofs.row.lift_edge.Tie as tie
+use Rattle.kernel.proofs.border.lift_edge.Statement.{statement}
+use Rattle.kernel.proofs.border.lift_edge.Tie as tie
 
 row : (s : tie.Start) → Row (s .args .width) (s .args .height) (s .args .y) (s .args .above) (s .args .below)
 row s = let p = s .pre .0 in record { wide = p .0; row = p .1; on-top = p .2; at-bottom = p .3 }

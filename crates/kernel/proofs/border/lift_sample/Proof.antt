@@ -10,8 +10,8 @@ use Rattle.integers.specs.Lists.{at}
 use Rattle.integers.proofs.Ranges.{in-fits}
 use Rattle.integers.proofs.Changes.{changed-none, changed-more}
 use Rattle.kernel.specs.Pass.{applied}
-use Rattle.kernel.proofs.row.lift_sample.Statement.{statement}
-use Rattle.kernel.proofs.row.lift_sample.Tie as tie
+use Rattle.kernel.proofs.border.lift_sample.Statement.{statement}
+use Rattle.kernel.proofs.border.lift_sample.Tie as tie
 
 own : (s : tie.Start) → In 4194304 4194304 (at (now (s .args .c)) (s .args .i))
 own s = s .pre .1 .1 .1 .0 .each (s .args .i) (omega arith) (omega arith)

@@ -7,8 +7,8 @@ use Rattle.integers.proofs.Changes.{changed-none, changed-join, changed-as}
 use Rattle.kernel.specs.Pass.{applied}
 use Rattle.kernel.specs.Window.{windowMean}
 use Rattle.kernel.proofs.Part.{part-of, part-after}
-use Rattle.kernel.proofs.row.edge_loop.Statement.{statement}
-use Rattle.kernel.proofs.row.edge_loop.Tie as tie
+use Rattle.kernel.proofs.border.edge_loop.Statement.{statement}
+use Rattle.kernel.proofs.border.edge_loop.Tie as tie
 
 abbrev Inv-loop : tie.InvT-loop
 Inv-loop c₀ a width above below weight pass from to i₀ c i = (from ≤ i) × (i ≤ to) × Changed (λ n z. applied pass z (windowMean width 1 1 above below weight a n)) from i c₀ c

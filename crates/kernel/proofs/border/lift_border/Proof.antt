@@ -12,8 +12,8 @@ use Rattle.integers.proofs.Changes.{changed-none, changed-more, changed-as}
 use Rattle.stage.specs.Filter.{mean}
 use Rattle.kernel.specs.Pass.{applied}
 use Rattle.kernel.proofs.Windows.{index-below}
-use Rattle.kernel.proofs.row.lift_border.Statement.{statement}
-use Rattle.kernel.proofs.row.lift_border.Tie as tie
+use Rattle.kernel.proofs.border.lift_border.Statement.{statement}
+use Rattle.kernel.proofs.border.lift_border.Tie as tie
 
 abbrev Inv-loop : tie.InvT-loop
 Inv-loop c₀ a width height y weight pass x₀ c x = (x ≤ width) × Changed (λ n z. applied pass z (mean width height weight a n)) (y * width) (y * width + x) c₀ c
