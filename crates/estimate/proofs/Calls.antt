@@ -1,10 +1,9 @@
 -- The call's answers, each as its definition has it.
-use mathlib.Core.Path.{_≡_, refl, sym, ap, _∙_, subst}
+use mathlib.Core.Path.{_≡_, sym, ap, _∙_, subst}
 use mathlib.Core.Bool.{Bool, true, false, cond}
 use mathlib.Core.List.{List, [], _∷_, _++_}
 use Prim.Native.Nat.{ℕ, _*_}
 use native.Mathlib.Omega.{arith}
-use lib.Dec.{T}
 use lib.IntN.{ℤ}
 use lib.ListN.{length, take}
 use Rattle.integers.proofs.Booleans.{true-holds}
@@ -14,10 +13,11 @@ use Rattle.stage.specs.Ranges.{sampleRanges}
 use Rattle.stage.specs.Transform.{choicesFit, lengths, isPicture}
 use Rattle.stage.specs.Estimate.{counted}
 use Rattle.stage.specs.Search.{Scratch, scratchSettings, choicesEstimate, estimated, clearedScratch, estimateCall}
+use Rattle.stage.proofs.Answers.{refusal-first, refusal-last, outcome-refused}
 use Rattle.stage.proofs.Demand3.{withinRanges-iff}
 use Rattle.estimate.specs.Calls.{left, Passed}
 use Rattle.estimate.specs.declared.Estimated.the-variants.{Done, Refused}
-use Rattle.estimate.proofs.Refusals.{SettingsPast, ScratchPast, refused-first, refused-last, left-refused, left-done, scratch-numbered, choices-past, scratch-settings-past, scratch-past}
+use Rattle.estimate.proofs.Refusals.{SettingsPast, ScratchPast, left-done, scratch-numbered, choices-past, scratch-settings-past, scratch-past}
 
 -- the number of the first test that fails up to 9
 pub record Tested (w h b t : ℕ) (φ : List ℕ) (p : Planes) (s : Scratch) (n : ℕ) : Type 0 where
@@ -36,7 +36,7 @@ module _ {w h b t : ℕ} {φ : List ℕ} {p : Planes} {s : Scratch} {n : ℕ} (k
 
   pub estimate-refused : (n ≡ 0 → ⊥) → left (Refused n) s ≡ estimateCall w h b t p φ s
   unfolding estimateCall
-  estimate-refused g = left-refused all-tests (estimated w h b t p φ) (clearedScratch s) s n (refused-first tests ((isPicture b p else 11) ∷ []) n (k .number) g) g
+  estimate-refused g = sym (outcome-refused (estimated w h b t p φ) (clearedScratch s) s all-tests n (refusal-first tests ((isPicture b p else 11) ∷ []) n (k .number) g) g)
 
   module _ (z : n ≡ 0) where
     passed-tests : refusal tests ≡ 0
@@ -44,7 +44,7 @@ module _ {w h b t : ℕ} {φ : List ℕ} {p : Planes} {s : Scratch} {n : ℕ} (k
 
     last-decides : (ok : Bool) → ok ≡ isPicture b p → refusal all-tests ≡ cond ok 0 11
     last-decides ok i =
-        refused-last tests (scratch-numbered w h b t (choicesFit t φ) (lengths p) (lengths (s .trials)) (length (s .counters))) passed-tests (isPicture b p) 11
+        refusal-last tests (scratch-numbered w h b t (choicesFit t φ) (lengths p) (lengths (s .trials)) (length (s .counters))) passed-tests (isPicture b p) 11
         ∙ ap (λ (x : Bool). cond x 0 11) (sym i)
 
     pub past : SettingsPast w h b t (lengths p)
@@ -60,7 +60,7 @@ module _ {w h b t : ℕ} {φ : List ℕ} {p : Planes} {s : Scratch} {n : ℕ} (k
 
     pub estimate-no-picture : isPicture b p ≡ false → left (Refused 11) s ≡ estimateCall w h b t p φ s
     unfolding estimateCall
-    estimate-no-picture i = left-refused all-tests (estimated w h b t p φ) (clearedScratch s) s 11 (sym (last-decides false (sym i))) (λ x. absurd (omega arith))
+    estimate-no-picture i = sym (outcome-refused (estimated w h b t p φ) (clearedScratch s) s all-tests 11 (sym (last-decides false (sym i))) (λ x. omega arith))
 
     module _ (i : isPicture b p ≡ true) where
       picture-passed : Passed w h b t φ p
@@ -78,7 +78,7 @@ module _ {w h b t : ℕ} {φ : List ℕ} {p : Planes} {s : Scratch} {n : ℕ} (k
           → left (Done x y) after ≡ estimateCall w h b t p φ s
       unfolding estimateCall
       estimate-done x y q after g v m r =
-          left-done all-tests (estimated w h b t p φ) (clearedScratch s) s x y after (last-decides true (sym i))
+          left-done (estimated w h b t p φ) (clearedScratch s) s all-tests x y after (last-decides true (sym i))
           (v ∙ ap (λ (a : Planes). choicesEstimate w h t a φ) g) (m ∙ ap counted (past .size1)) r
 
 -- the picture, copied to the front of longer planes

@@ -1,38 +1,26 @@
 -- The refusals of both calls in their order, and what holds past them.
-use mathlib.Core.Path.{_≡_, refl, sym, ap, _∙_}
+use mathlib.Core.Path.{_≡_, sym, ap, _∙_}
 use mathlib.Core.Bool.{Bool, cond, _&&_}
-use mathlib.Core.List.{List, [], _∷_, _++_}
-use Prim.Native.Nat.{ℕ, zero, suc, _+_, _*_, _≤_, _<_}
+use mathlib.Core.List.{List, [], _∷_}
+use Prim.Native.Nat.{ℕ, _+_, _*_, _≤_, _<_}
 use native.Mathlib.Nat.{mul-le-mul}
 use native.Mathlib.Omega.{arith}
 use lib.Dec.{T, leb, leb→le, eqb, eqb→eq}
 use Rattle.integers.proofs.Booleans.{and-iff}
-use Rattle.stage.specs.Answers.{Test, _else_, refusal, Outcome, outcome, between}
+use Rattle.stage.specs.Answers.{Test, _else_, refusal, outcome, between}
 use Rattle.stage.specs.Planes.{Triple}
 use Rattle.stage.specs.Ranges.{widest}
-use Rattle.stage.specs.Transform.{settings, allEqual}
+use Rattle.stage.specs.Transform.{settings}
 use Rattle.stage.specs.Search.{allAtLeast, scratchFits, scratchSettings}
 use Rattle.stage.specs.Search as stage
-use Rattle.stage.proofs.Answers.{Holds, Numbered, refusal-holds, refusal-past, refusal-first, holds-append, outcome-done, outcome-refused}
+use Rattle.stage.proofs.Answers.{Holds, Numbered, refusal-holds, refusal-first, refusal-last, holds-append, outcome-done}
 use Rattle.estimate.specs.Calls.{left, Settings}
-use Rattle.estimate.specs.declared.Estimated.the-variants.{Done, Refused}
-
--- ---- one test after others
-pub refused-first : (l m : List Test) (n : ℕ) → n ≡ refusal l → (n ≡ 0 → ⊥) → n ≡ refusal (l ++ m)
-refused-first l m zero e g = absurd (g refl)
-refused-first l m (suc n) e g = sym (refusal-first l m n (sym e))
-
-pub refused-last : (l : List Test) → Numbered l → refusal l ≡ 0 → (b : Bool) (k : ℕ) → refusal (l ++ (b else k) ∷ []) ≡ cond b 0 k
-refused-last l i e b k = refusal-past l ((b else k) ∷ []) (refusal-holds l i e)
+use Rattle.estimate.specs.declared.Estimated.the-variants.{Done}
 
 -- ---- a call's outcome
-module _ {M : Type 0} (l : List Test) (v : stage.Estimated) (result before : M) where
-  pub left-refused : (n : ℕ) → n ≡ refusal l → (n ≡ 0 → ⊥) → left (Refused n) before ≡ outcome l v result before
-  left-refused zero e g = absurd (g refl)
-  left-refused (suc n) e g = sym (outcome-refused v result before l n (sym e))
-
-  pub left-done : (e n : ℕ) (after : M) → refusal l ≡ 0 → e ≡ v .estimate → n ≡ v .samples → after ≡ result → left (Done e n) after ≡ outcome l v result before
-  left-done e n after z p q r = rw (p, q, r) (sym (outcome-done v result before l z))
+pub left-done : {M : Type 0} (v : stage.Estimated) (result before : M) (l : List Test) (e n : ℕ) (after : M) → refusal l ≡ 0 → e ≡ v .estimate → n ≡ v .samples → after ≡ result
+    → left (Done e n) after ≡ outcome l v result before
+left-done v result before l e n after z p q r = rw (p, q, r) (sym (outcome-done v result before l z))
 
 -- ---- what the tests say
 pub record SettingsPast (w h b t : ℕ) (l : Triple ℕ) : Type 0 where
@@ -94,12 +82,12 @@ module _ (w h b t : ℕ) (choices : Bool) (l : Triple ℕ) where
 
     -- a setting refused, and the scratch once the settings are past
     pub settings-refused : (n : ℕ) → n ≡ refusal (settings w h b t choices l) → (n ≡ 0 → ⊥) → n ≡ refusal tests
-    settings-refused = refused-first (settings w h b t choices l) rest
+    settings-refused = refusal-first (settings w h b t choices l) rest
 
     pub scratch-refused : refusal (settings w h b t choices l) ≡ 0 → (ok : Bool) → ok ≡ scratchFits (l .c1) t b m counters → refusal tests ≡ cond ok 0 9
     scratch-refused e ok f =
         let s = settings-past e in
-        refused-last (settings w h b t choices l) settings-numbered e (scratchFits (w * h) t b m counters) 9
+        refusal-last (settings w h b t choices l) settings-numbered e (scratchFits (w * h) t b m counters) 9
         ∙ ap (λ (n : ℕ). cond (scratchFits n t b m counters) 0 9) (sym (s .size1)) ∙ ap (λ (x : Bool). cond x 0 9) (sym f)
 
     module _ (e : refusal tests ≡ 0) where

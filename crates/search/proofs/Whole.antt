@@ -16,11 +16,11 @@ use Rattle.stage.specs.Ranges.{sampleRanges, widest}
 use Rattle.stage.specs.Transform.{allFilters, choicesFit, lengths, isPicture}
 use Rattle.stage.specs.Estimate.{counted}
 use Rattle.stage.specs.Search.{rounds, searched, choicesEstimate, scratchSettings, clearedScratch, estimated, winners, Lent, searchCall}
-use Rattle.stage.proofs.Answers.{Numbered, holds-refusal, refusal-holds, holds-append}
+use Rattle.stage.proofs.Answers.{Numbered, holds-refusal, refusal-holds, refusal-first, refusal-last, holds-append, outcome-refused}
 use Rattle.stage.proofs.Demand3.{withinRanges-iff}
 use Rattle.estimate.specs.declared.Estimated.the-variants.{Done, Refused}
 use Rattle.estimate.specs.Calls.{left}
-use Rattle.estimate.proofs.Refusals.{SettingsPast, ScratchPast, refused-first, refused-last, left-refused, left-done, choices-past, scratch-settings-past, scratch-past}
+use Rattle.estimate.proofs.Refusals.{SettingsPast, ScratchPast, left-done, choices-past, scratch-settings-past, scratch-past}
 use Rattle.trials.specs.Trials.{TrialPlanes}
 use Rattle.search.specs.Calls.{lent}
 
@@ -108,18 +108,18 @@ module _ (w h b t k : ℕ) (p : Planes) (m : Lent) where
     pub search-refused : (n ≡ 0 → ⊥) → left (Refused n) m ≡ searchCall w h b t p k m
     unfolding searchCall
     search-refused g =
-        left-refused (firstTests ++ (isPicture b p else 11) ∷ []) (estimated w h b t p (winners w h b t p k)) _ m n
-        (refused-first firstTests ((isPicture b p else 11) ∷ []) n e g) g
+        sym (outcome-refused (estimated w h b t p (winners w h b t p k)) _ m (firstTests ++ (isPicture b p else 11) ∷ []) n
+        (refusal-first firstTests ((isPicture b p else 11) ∷ []) n e g) g)
 
     module _ (z : n ≡ 0) where
       last-test : refusal (firstTests ++ (isPicture b p else 11) ∷ []) ≡ cond (isPicture b p) 0 11
-      last-test = refused-last firstTests numbered (sym e ∙ z) (isPicture b p) 11
+      last-test = refusal-last firstTests numbered (sym e ∙ z) (isPicture b p) 11
 
       pub search-no-picture : isPicture b p ≡ false → left (Refused 11) m ≡ searchCall w h b t p k m
       unfolding searchCall
       search-no-picture i =
-          left-refused (firstTests ++ (isPicture b p else 11) ∷ []) (estimated w h b t p (winners w h b t p k)) _ m 11
-          (sym (last-test ∙ ap (λ (x : Bool). cond x 0 11) i)) (λ q. omega arith)
+          sym (outcome-refused (estimated w h b t p (winners w h b t p k)) _ m (firstTests ++ (isPicture b p else 11) ∷ []) 11
+          (sym (last-test ∙ ap (λ (x : Bool). cond x 0 11) i)) (λ q. omega arith))
 
       -- q is what the trial planes held at their front
       pub search-done : isPicture b p ≡ true → (q : Planes) → q ≡ p → (x s : ℕ) (φ : List ℕ) (r : Planes) (l : List ℕ)
@@ -130,7 +130,7 @@ module _ (w h b t k : ℕ) (p : Planes) (m : Lent) where
       search-done i q f x s φ r l xe φe se re le =
           let W = winners w h b t p k in
           let φ-is : φ ≡ W = φe ∙ ap (λ (y : Planes). searched (choicesEstimate w h t y) (places (steps t)) k) f in
-          left-done (firstTests ++ (isPicture b p else 11) ∷ []) (estimated w h b t p W) _ m x s _
+          left-done (estimated w h b t p W) _ m (firstTests ++ (isPicture b p else 11) ∷ []) x s _
           (last-test ∙ ap (λ (y : Bool). cond y 0 11) i) (xe ∙ ap₂ (choicesEstimate w h t) f φ-is) se
           (ap (λ (y : List ℕ). record { choices = y; scratch = record { trials = r; counters = l } }) φ-is
           ∙ ap₂ (λ (y : Planes) (j : List ℕ). record { choices = W; scratch = record { trials = y; counters = j } }) re le)

@@ -6,6 +6,7 @@ use mathlib.Core.List.{List, [], _∷_, _++_}
 use Prim.Native.Nat.{ℕ, zero, suc}
 use native.Mathlib.Omega.{arith}
 use lib.Dec.{T, ltb, eqb, eqb·suc-zero}
+use borrow.Author.Tests.{ne-eqb}
 use Rattle.stage.specs.Answers.{Reply, done, refused, Test, _else_, refusal, answer, Outcome, outcome}
 
 -- every test holds
@@ -36,10 +37,14 @@ refusal-past ((true else n) ∷ l) m h = refusal-past l m (h .1)
 refusal-past ((false else n) ∷ l) m h = absurd (h .0)
 
 -- the first refusal stands, whatever is tested after it
-pub refusal-first : (l m : List Test) (n : ℕ) → refusal l ≡ suc n → refusal (l ++ m) ≡ suc n
-refusal-first [] m n e = absurd (omega arith)
-refusal-first ((true else k) ∷ l) m n e = refusal-first l m n e
-refusal-first ((false else k) ∷ l) m n e = e
+pub refusal-first : (l m : List Test) (n : ℕ) → n ≡ refusal l → (n ≡ 0 → ⊥) → n ≡ refusal (l ++ m)
+refusal-first [] m n e g = absurd (g e)
+refusal-first ((true else k) ∷ l) m n e g = refusal-first l m n e g
+refusal-first ((false else k) ∷ l) m n e g = e
+
+-- past the first tests the last decides
+pub refusal-last : (l : List Test) → Numbered l → refusal l ≡ 0 → (b : Bool) (n : ℕ) → refusal (l ++ (b else n) ∷ []) ≡ cond b 0 n
+refusal-last l k e b n = refusal-past l ((b else n) ∷ []) (refusal-holds l k e)
 
 pub holds-append : (l m : List Test) → Holds (l ++ m) ↔ (Holds l × Holds m)
 holds-append [] m = (λ h. (tt, h), λ h. h .1)
@@ -52,8 +57,8 @@ module _ {A M : Type 0} (v : A) (result before : M) where
   pub outcome-done : (l : List Test) → refusal l ≡ 0 → outcome l v result before ≡ record { reply = done v; memory = result }
   outcome-done l e = rw e
 
-  pub outcome-refused : (l : List Test) (n : ℕ) → refusal l ≡ suc n → outcome l v result before ≡ record { reply = refused (suc n); memory = before }
-  outcome-refused l n e = rw (e, eqb·suc-zero n)
+  pub outcome-refused : (l : List Test) (n : ℕ) → n ≡ refusal l → (n ≡ 0 → ⊥) → outcome l v result before ≡ record { reply = refused n; memory = before }
+  outcome-refused l n e g = rw (sym e, ne-eqb n 0 g)
 
   -- a call that answers `done` made no refusal
   pub done-refusal : (l : List Test) (u : A) → answer l v ≡ done u → refusal l ≡ 0

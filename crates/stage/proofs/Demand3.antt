@@ -137,8 +137,8 @@ module _ (w h b t : ℕ) (φ : List ℕ) where
     none-refused : ((p : Planes) → GoesTo w h b t φ p q → ⊥) → inverse w h b t φ q ≡ record { reply = refused 12; memory = q }
     unfolding inverse
     none-refused f =
-        outcome-refused tt u q (tests u q (isPicture b u) 12 q) 11
-        (last-test ∙ ap (λ (x : Bool). cond x 0 12) (fails-false (isPicture b u) (λ k. f u (picture-goes k))))
+        outcome-refused tt u q (tests u q (isPicture b u) 12 q) 12
+        (sym (last-test ∙ ap (λ (x : Bool). cond x 0 12) (fails-false (isPicture b u) (λ k. f u (picture-goes k))))) (λ e. omega arith)
 
     goes-within : (p : Planes) → GoesTo w h b t φ p q → InRanges (finishedRanges t b) q
     unfolding transformed

@@ -2,7 +2,8 @@
 use mathlib.Core.Path.{_≡_, refl, sym, ap, _∙_, subst}
 use mathlib.Core.Bool.{Bool, true, false, cond}
 use mathlib.Core.List.{List, [], _∷_, _++_}
-use Prim.Native.Nat.{ℕ, zero, suc, _*_, _≤_}
+use Prim.Native.Nat.{ℕ, _*_, _≤_}
+use native.Mathlib.Omega.{arith}
 use lib.Dec.{T, leb, leb→le}
 use lib.ListN.{length}
 use Rattle.integers.proofs.Booleans.{and-iff, true-holds}
@@ -42,11 +43,7 @@ module _ (w h b t : ℕ) (φ : List ℕ) (p : Planes) (fit : Bool) (n : ℕ) (f 
 
   -- a setting refused, whatever is tested after it
   refused-by : (last : Test) (result : Planes) → (n ≡ 0 → ⊥) → outcomeOf (Refused n) p ≡ outcome (tests ++ last ∷ []) tt result p
-  refused-by last result g = go n number g
-    where
-      go : (m : ℕ) → m ≡ refusal tests → (m ≡ 0 → ⊥) → outcomeOf (Refused m) p ≡ outcome (tests ++ last ∷ []) tt result p
-      go zero i g = absurd (g refl)
-      go (suc m) i g = sym (outcome-refused tt result p (tests ++ last ∷ []) m (refusal-first tests (last ∷ []) m (sym i)))
+  refused-by last result g = sym (outcome-refused tt result p (tests ++ last ∷ []) n (refusal-first tests (last ∷ []) n number g) g)
 
   pub forward-refused : (n ≡ 0 → ⊥) → outcomeOf (Refused n) p ≡ forward w h b t φ p
   unfolding forward
@@ -67,9 +64,9 @@ module _ (w h b t : ℕ) (φ : List ℕ) (p : Planes) (k : Passed w h b t φ p) 
   accepted-by : (ok : Bool) (n : ℕ) (result q : Planes) → ok ≡ true → q ≡ result → outcomeOf Done q ≡ outcome (all ok n) tt result p
   accepted-by ok n result q e g = ap (outcomeOf Done) g ∙ sym (outcome-done tt result p (all ok n) (last-decides ok n ∙ ap (λ (x : Bool). cond x 0 n) e))
 
-  refused-last : (ok : Bool) (n : ℕ) (result q : Planes) → ok ≡ false → q ≡ p → outcomeOf (Refused (suc n)) q ≡ outcome (all ok (suc n)) tt result p
-  refused-last ok n result q e g =
-      ap (outcomeOf (Refused (suc n))) g ∙ sym (outcome-refused tt result p (all ok (suc n)) n (last-decides ok (suc n) ∙ ap (λ (x : Bool). cond x 0 (suc n)) e))
+  refused-last : (ok : Bool) (n : ℕ) (result q : Planes) → ok ≡ false → q ≡ p → (n ≡ 0 → ⊥) → outcomeOf (Refused n) q ≡ outcome (all ok n) tt result p
+  refused-last ok n result q e g s =
+      ap (outcomeOf (Refused n)) g ∙ sym (outcome-refused tt result p (all ok n) n (sym (last-decides ok n ∙ ap (λ (x : Bool). cond x 0 n) e)) s)
 
   all-steps : stepsBetween t 0 (length (steps t)) ≡ steps t
   all-steps = between-last t 0
@@ -85,7 +82,7 @@ module _ (w h b t : ℕ) (φ : List ℕ) (p : Planes) (k : Passed w h b t φ p) 
   -- ---- forward
   pub forward-no-picture : isPicture b p ≡ false → outcomeOf (Refused 11) p ≡ forward w h b t φ p
   unfolding forward
-  forward-no-picture e = refused-last (isPicture b p) 10 (transformed w h t φ p) p e refl
+  forward-no-picture e = refused-last (isPicture b p) 11 (transformed w h t φ p) p e refl (λ x. omega arith)
 
   pub forward-done : (n : ℕ) (q : Planes) → n ≡ length (steps t) → isPicture b p ≡ true → q ≡ run (setup w h φ) (stepsBetween t 0 n) p → outcomeOf Done q ≡ forward w h b t φ p
   unfolding forward
@@ -124,5 +121,5 @@ module _ (w h b t : ℕ) (φ : List ℕ) (p : Planes) (k : Passed w h b t φ p) 
       pub inverse-no-picture : isPicture b u ≡ false → (r : Planes) → r ≡ run (setup w h φ) (stepsBetween t 0 n) u → outcomeOf (Refused 12) r ≡ inverse w h b t φ p
       unfolding inverse
       inverse-no-picture i r d =
-          refused-last (isPicture b (untransformed w h t φ p)) 11 (untransformed w h t φ p) r (ap (isPicture b) (sym undone) ∙ i)
-          (d ∙ run-all n e u ∙ ap (transformed w h t φ) undone ∙ steps-cancel w h t φ p .1)
+          refused-last (isPicture b (untransformed w h t φ p)) 12 (untransformed w h t φ p) r (ap (isPicture b) (sym undone) ∙ i)
+          (d ∙ run-all n e u ∙ ap (transformed w h t φ) undone ∙ steps-cancel w h t φ p .1) (λ x. omega arith)

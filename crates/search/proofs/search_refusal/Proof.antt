@@ -9,7 +9,8 @@ use Rattle.stage.specs.Answers.{Test, _else_, refusal, between}
 use Rattle.stage.specs.Planes.{triple}
 use Rattle.stage.specs.Steps.{steps, places}
 use Rattle.stage.specs.Search.{scratchSettings}
-use Rattle.estimate.proofs.Refusals.{refused-first, refused-last, scratch-numbered}
+use Rattle.stage.proofs.Answers.{refusal-first, refusal-last}
+use Rattle.estimate.proofs.Refusals.{scratch-numbered}
 use Rattle.search.proofs.search_refusal.Statement.{statement}
 use Rattle.search.proofs.search_refusal.Tie as tie
 
@@ -33,7 +34,7 @@ rounds-decide : (c : tie.Else1) → let s = c .before .before .before in refusal
 rounds-decide c =
     let s = c .before .before .before in
     let a = s .args in
-    refused-last (tests s (known s)) (scratch-numbered (a .width) (a .height) (a .depth) (a .transform) (eqb (a .choices) (known s)) (triple (a .n1) (a .n2) (a .n3)) (triple (a .m1) (a .m2) (a .m3)) (a .counters))
+    refusal-last (tests s (known s)) (scratch-numbered (a .width) (a .height) (a .depth) (a .transform) (eqb (a .choices) (known s)) (triple (a .n1) (a .n2) (a .n3)) (triple (a .m1) (a .m2) (a .m3)) (a .counters))
     (sym (number (c .before)) ∙ c .if1 .left) (between 1 4 (a .rounds)) 10
 
 places-requires : tie.Need-places-requires
@@ -46,7 +47,7 @@ returns : tie.Need-returns
 returns c =
     let r = c .before in
     let s = r .before .before in
-    refused-first (tests s (known s)) (last s) (r .scratch-refusal .result) (number r) (c .if1 .taken)
+    refusal-first (tests s (known s)) (last s) (r .scratch-refusal .result) (number r) (c .if1 .taken)
 
 returns-2 : tie.Need-returns-2
 returns-2 c = sym (rounds-decide (c .before) ∙ ap (λ (x : Bool). cond x 0 10) (c .if2 .taken))
