@@ -66,12 +66,20 @@ all-changed f before = record {
   high = λ k p. at-past (mapIndexed f 0 before) k (omega (arith, length-mapIndexed f 0 before)) ∙ sym (at-past before k p);
 }
 
--- a number outside the part is as before, so in its range; one inside is in the range that f gives
-pub changed-low-in : {f : ℕ → ℤ → ℤ} {before after : List ℤ} {i j l h : ℕ} → Changed f i j before after → AllIn l h before → (k : ℕ) → k < i → In l h (at after k)
-changed-low-in u a k p = rw (u .low k p) (a .each k)
+-- a part changed twice
+pub changed-twice : {f g : ℕ → ℤ → ℤ} {before between after : List ℤ} {i j : ℕ} → Changed f i j before between → Changed g i j between after → Changed (λ k z. g k (f k z)) i j before after
+changed-twice {g} u v = record {
+  long = v .long ∙ u .long;
+  new = λ k p q. v .new k p q ∙ ap (g k) (u .new k p q);
+  low = λ k p. v .low k p ∙ u .low k p;
+  high = λ k p. v .high k p ∙ u .high k p;
+}
 
-pub changed-high-in : {f : ℕ → ℤ → ℤ} {before after : List ℤ} {i j l h : ℕ} → Changed f i j before after → AllIn l h before → (k : ℕ) → j ≤ k → In l h (at after k)
-changed-high-in u a k p = rw (u .high k p) (a .each k)
-
-pub changed-new-in : {f : ℕ → ℤ → ℤ} {before after : List ℤ} {i j l h m n : ℕ} → Changed f i j before after → AllIn l h before → ((k : ℕ) (z : ℤ) → In l h z → In m n (f k z)) → (k : ℕ) → i ≤ k → k < j → In m n (at after k)
-changed-new-in {before} u a g k p q = rw (u .new k p q) (g k (at before k) (a .each k))
+-- a number outside the part is as before, so in its range
+pub changed-in : {f : ℕ → ℤ → ℤ} {before after : List ℤ} {i j l h : ℕ} → Changed f i j before after → AllIn l h before → ((k : ℕ) → i ≤ k → k < j → In l h (f k (at before k))) → AllIn l h after
+changed-in {after} {i} {j} {l} {h} u a g = record { each = λ k. go k (decLt k i) (decLt k j) }
+  where
+    go : (k : ℕ) → Dec (k < i) → Dec (k < j) → In l h (at after k)
+    go k (yes p) q = rw (u .low k p) (a .each k)
+    go k (no p) (yes q) = rw (u .new k (omega arith) q) (g k (omega arith) q)
+    go k (no p) (no q) = rw (u .high k (omega arith)) (a .each k)

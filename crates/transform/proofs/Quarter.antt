@@ -1,42 +1,24 @@
 -- RCT's third step row by row: two passes over each row make the step.
-use mathlib.Core.Path.{_≡_, refl, sym, ap, ap₂, _∙_}
+use mathlib.Core.Path.{_≡_, refl, sym, ap₂, _∙_}
 use mathlib.Core.Bool.{Bool, true, false, cond}
 use mathlib.Core.List.{List}
-use Prim.Native.Nat.{ℕ, _<_, _≤_}
+use Prim.Native.Nat.{ℕ, _≤_}
 use native.Mathlib.Omega.{arith}
-use native.Mathlib.Decide.{decLt}
 use lib.Dec.{lit≤}
 use lib.IntN.{ℤ, pos, _+ℤ_}
 use Rattle.integers.specs.Parts.{In}
-use Rattle.integers.specs.Lists.{at, AllIn, mapIndexed, Changed}
+use Rattle.integers.specs.Lists.{AllIn, mapIndexed, Changed}
 use Rattle.integers.proofs.FloorDivision.{floorDiv-low, floorDiv-high}
 use Rattle.integers.proofs.Linear.{flat, count, eq-lin, in-lin}
 use Rattle.integers.proofs.Lists.{mapIndexed-same, mapIndexed-id}
 use Rattle.integers.proofs.Parts.{add-difference}
-use Rattle.integers.proofs.Changes.{changed-join, changed-as}
+use Rattle.integers.proofs.Changes.{changed-join, changed-as, changed-twice, changed-in}
 use Rattle.stage.specs.Filter.{filtered}
 use Rattle.stage.proofs.Means.{filtered-in}
 use Rattle.kernel.specs.Pass.{applied}
 use Rattle.kernel.proofs.Quarters.{quarter-added, quarter-subtracted}
 use Rattle.transform.specs.Passes.{quarterLifted, quarterAt}
 use Rattle.transform.proofs.Passes.{number-most, widened}
-
--- ---- a part of a list changed twice, and the range of what a change leaves
-changed-twice : {f g : ℕ → ℤ → ℤ} {before between after : List ℤ} {i j : ℕ} → Changed f i j before between → Changed g i j between after → Changed (λ k z. g k (f k z)) i j before after
-changed-twice {g} u v = record {
-  long = v .long ∙ u .long;
-  new = λ k p q. v .new k p q ∙ ap (g k) (u .new k p q);
-  low = λ k p. v .low k p ∙ u .low k p;
-  high = λ k p. v .high k p ∙ u .high k p;
-}
-
-changed-in : {f : ℕ → ℤ → ℤ} {before after : List ℤ} {i j l h : ℕ} → Changed f i j before after → AllIn l h before → ((k : ℕ) → i ≤ k → k < j → In l h (f k (at before k))) → AllIn l h after
-changed-in {after} {i} {j} {l} {h} u a g = record { each = λ k. go k (decLt k i) (decLt k j) }
-  where
-    go : (k : ℕ) → Dec (k < i) → Dec (k < j) → In l h (at after k)
-    go k (yes p) q = rw (u .low k p) (a .each k)
-    go k (no p) (yes q) = rw (u .new k (omega arith) q) (g k (omega arith) q)
-    go k (no p) (no q) = rw (u .high k (omega arith)) (a .each k)
 
 -- ---- one sample
 two-passes : (back : Bool) (x f g : ℤ) → applied (cond back 8 7) (applied (cond back 6 5) x f) g ≡ quarterLifted back x f g
