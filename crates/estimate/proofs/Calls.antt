@@ -8,11 +8,12 @@ use lib.IntN.{ℤ}
 use lib.ListN.{length, take}
 use Rattle.integers.proofs.Booleans.{true-holds}
 use Rattle.stage.specs.Answers.{Test, _else_, refusal}
-use Rattle.stage.specs.Planes.{Plane, C1, C2, C3, Planes, triple, get}
+use Rattle.stage.specs.Planes.{Plane, Planes, triple, get}
 use Rattle.stage.specs.Ranges.{sampleRanges}
 use Rattle.stage.specs.Transform.{choicesFit, lengths, isPicture}
 use Rattle.stage.specs.Estimate.{counted}
 use Rattle.stage.specs.Search.{Scratch, scratchSettings, choicesEstimate, estimated, clearedScratch, estimateCall}
+use Rattle.stage.proofs.Triples.{each-plane}
 use Rattle.stage.proofs.Answers.{refusal-first, refusal-last, outcome-refused}
 use Rattle.stage.proofs.Demand3.{withinRanges-iff}
 use Rattle.estimate.specs.Calls.{left, Passed}
@@ -54,9 +55,7 @@ module _ {w h b t : ℕ} {φ : List ℕ} {p : Planes} {s : Scratch} {n : ℕ} (k
     scratch = scratch-past w h b t (choicesFit t φ) (lengths p) (lengths (s .trials)) (length (s .counters)) passed-tests
 
     pub size : (c : Plane) → length (get p c) ≡ w * h
-    size C1 = past .size1
-    size C2 = past .size2
-    size C3 = past .size3
+    size = each-plane (λ (c : Plane). length (get p c) ≡ w * h) (past .size1) (past .size2) (past .size3)
 
     pub estimate-no-picture : isPicture b p ≡ false → left (Refused 11) s ≡ estimateCall w h b t p φ s
     unfolding estimateCall

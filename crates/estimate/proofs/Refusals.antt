@@ -1,19 +1,20 @@
 -- The refusals of both calls in their order, and what holds past them.
 use mathlib.Core.Path.{_≡_, sym, ap, _∙_}
-use mathlib.Core.Bool.{Bool, cond, _&&_}
+use mathlib.Core.Bool.{Bool, cond}
 use mathlib.Core.List.{List, [], _∷_}
 use Prim.Native.Nat.{ℕ, _+_, _*_, _≤_, _<_}
 use native.Mathlib.Nat.{mul-le-mul}
 use native.Mathlib.Omega.{arith}
 use lib.Dec.{T, leb, leb→le, eqb, eqb→eq}
 use Rattle.integers.proofs.Booleans.{and-iff}
-use Rattle.stage.specs.Answers.{Test, _else_, refusal, outcome, between}
-use Rattle.stage.specs.Planes.{Triple}
+use Rattle.stage.specs.Answers.{Test, _else_, refusal, outcome}
+use Rattle.stage.specs.Planes.{Plane, C1, C2, C3, Triple, get}
 use Rattle.stage.specs.Ranges.{widest}
 use Rattle.stage.specs.Transform.{settings}
 use Rattle.stage.specs.Search.{allAtLeast, scratchFits, scratchSettings}
 use Rattle.stage.specs.Search as stage
-use Rattle.stage.proofs.Answers.{Holds, Numbered, refusal-holds, refusal-first, refusal-last, holds-append, outcome-done}
+use Rattle.stage.proofs.Triples.{each-test}
+use Rattle.stage.proofs.Answers.{Holds, Numbered, refusal-holds, refusal-first, refusal-last, holds-append, outcome-done, between-iff, sized-iff}
 use Rattle.estimate.specs.Calls.{left, Settings}
 use Rattle.estimate.specs.declared.Estimated.the-variants.{Done}
 
@@ -35,36 +36,30 @@ pub record ScratchPast (w h b t : ℕ) (m : Triple ℕ) (counters : ℕ) : Type 
   pub room3 : w * h ≤ m .c3
   pub enough : 2 * widest t b < counters
 
-between-past : (low high n : ℕ) → T (between low high n) → (low ≤ n) × (n ≤ high)
-between-past low high n k = let a = and-iff (leb low n) (leb n high) .0 k in (leb→le low n (a .0), leb→le n high (a .1))
-
 module _ (w h b t : ℕ) (choices : Bool) (l : Triple ℕ) where
   pub settings-numbered : Numbered (settings w h b t choices l)
   settings-numbered = (tt, (tt, (tt, (tt, (tt, tt)))))
 
   settings-hold : Holds (settings w h b t choices l) → SettingsPast w h b t l
   settings-hold k =
-      let a = and-iff (between 1 8192 w) (between 1 8192 h) .0 (k .0) in
-      let x = between-past 1 8192 w (a .0) in
-      let y = between-past 1 8192 h (a .1) in
-      let d = between-past 2 16 b (k .1 .0) in
-      let s = and-iff (eqb (l .c1) (w * h)) (eqb (l .c2) (w * h) && eqb (l .c3) (w * h)) .0 (k .1 .1 .1 .1 .0) in
-      let u = and-iff (eqb (l .c2) (w * h)) (eqb (l .c3) (w * h)) .0 (s .1) in
+      let s = sized-iff w h .0 (k .0) in
+      let d = between-iff 2 16 b .0 (k .1 .0) in
+      let e = each-test (λ (c : Plane). eqb (get l c) (w * h)) .0 (k .1 .1 .1 .1 .0) in
       record {
         settings = record {
-          across = x .0;
-          narrow = x .1;
-          down = y .0;
-          low = y .1;
-          some = mul-le-mul (x .0) (y .0);
-          most = mul-le-mul (x .1) (y .1);
+          across = s .0 .0;
+          narrow = s .0 .1;
+          down = s .1 .0;
+          low = s .1 .1;
+          some = mul-le-mul (s .0 .0) (s .1 .0);
+          most = mul-le-mul (s .0 .1) (s .1 .1);
           least = d .0;
           deep = d .1;
           known = leb→le t 3 (k .1 .1 .0);
         };
-        size1 = eqb→eq (l .c1) (w * h) (s .0);
-        size2 = eqb→eq (l .c2) (w * h) (u .0);
-        size3 = eqb→eq (l .c3) (w * h) (u .1);
+        size1 = eqb→eq (l .c1) (w * h) (e C1);
+        size2 = eqb→eq (l .c2) (w * h) (e C2);
+        size3 = eqb→eq (l .c3) (w * h) (e C3);
       }
 
   pub settings-past : refusal (settings w h b t choices l) ≡ 0 → SettingsPast w h b t l
@@ -103,11 +98,10 @@ module _ (w h b t : ℕ) (choices : Bool) (l : Triple ℕ) where
       pub scratch-past : ScratchPast w h b t m counters
       scratch-past =
           let a = and-iff (allAtLeast (w * h) m) (leb (2 * widest t b + 1) counters) .0 (hold .1 .0) in
-          let r = and-iff (leb (w * h) (m .c1)) (leb (w * h) (m .c2) && leb (w * h) (m .c3)) .0 (a .0) in
-          let q = and-iff (leb (w * h) (m .c2)) (leb (w * h) (m .c3)) .0 (r .1) in
+          let r = each-test (λ (c : Plane). leb (w * h) (get m c)) .0 (a .0) in
           record {
-            room1 = leb→le (w * h) (m .c1) (r .0);
-            room2 = leb→le (w * h) (m .c2) (q .0);
-            room3 = leb→le (w * h) (m .c3) (q .1);
+            room1 = leb→le (w * h) (m .c1) (r C1);
+            room2 = leb→le (w * h) (m .c2) (r C2);
+            room3 = leb→le (w * h) (m .c3) (r C3);
             enough = omega (arith, leb→le (2 * widest t b + 1) counters (a .1));
           }

@@ -26,7 +26,7 @@ module _ {w h b t : ℕ} {φ : List ℕ} {p : Planes} (x : Passed w h b t φ p) 
 
   module _ (e : n ≡ length (steps t)) (q : Planes) (g : q ≡ run (setup w h φ) (stepsBetween t 0 n) p) where
     all-run : q ≡ run (setup w h φ) (steps t) p
-    all-run = g ∙ ap (λ (m : ℕ). run (setup w h φ) (stepsBetween t 0 m) p) e ∙ ap (λ (l : List Step). run (setup w h φ) l p) (between-last t 0)
+    all-run = g ∙ ap (λ (l : List Step). run (setup w h φ) l p) (between-last t 0 n e)
 
     size : (c : Plane) → length (get q c) ≡ w * h
     size c = ap (λ (y : Planes). length (get y c)) all-run ∙ run-length (setup w h φ) (steps t) p c ∙ x .picture .size c

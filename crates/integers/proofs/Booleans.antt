@@ -1,8 +1,9 @@
 -- A test's value as a fact, and back.
-use mathlib.Core.Path.{_≡_, refl, sym, subst}
+use mathlib.Core.Path.{_≡_, refl, sym, subst, _∙_}
 use mathlib.Core.Bool.{Bool, true, false, not, _&&_}
 use mathlib.Core.Logic.{_↔_}
 use lib.Dec.{T}
+use borrow.Author.Tests.{not-true, not-false}
 
 pub holds-true : (b : Bool) → T b → b ≡ true
 holds-true true p = refl
@@ -22,7 +23,21 @@ pub and-iff : (a b : Bool) → T (a && b) ↔ (T a × T b)
 and-iff true b = (λ h. (tt, h), λ h. h .1)
 and-iff false b = (λ h. absurd h, λ h. h .0)
 
+pub both-true : (a b : Bool) → (a && b) ≡ true → (a ≡ true) × (b ≡ true)
+both-true a b e = let h = and-iff a b .0 (true-holds e) in (holds-true a (h .0), holds-true b (h .1))
+
+pub and-false : (b : Bool) → (b && false) ≡ false
+and-false true = refl
+and-false false = refl
+
 -- tests of one fact have one value
 pub same-test : {P : Type 0} (a b : Bool) → T a ↔ P → T b ↔ P → a ≡ b
 same-test true b p q = sym (holds-true b (q .1 (p .0 tt)))
 same-test false b p q = sym (fails-false b (λ t. p .1 (q .0 t)))
+
+-- a test by a call that answered r
+pub held : {r t : Bool} → r ≡ t → not r ≡ false → t ≡ true
+held e f = sym e ∙ not-false _ f
+
+pub failed : {r t : Bool} → r ≡ t → not r ≡ true → t ≡ false
+failed e f = sym e ∙ not-true _ f

@@ -1,14 +1,14 @@
--- The range test as machine code makes it, of one number and of a list.
+-- The range test as machine code makes it, of one number and of a list; powers of two by a shift.
 use mathlib.Core.Path.{_≡_, refl, sym}
 use mathlib.Core.Bool.{Bool, true, false, _&&_, and-assoc, and-true}
 use mathlib.Core.Logic.{_↔_}
 use mathlib.Core.List.{List}
-use Prim.Native.Nat.{ℕ, suc, _+_, _-_, _/_, _^_, _≤_, _<_}
+use Prim.Native.Nat.{ℕ, suc, _+_, _-_, _*_, _/_, _%_, _^_, _≤_, _<_}
 use native.Mathlib.Omega.{arith}
-use native.Mathlib.Nat.{div-lt-iff-lt-mul, div-eq-of-lt, div-le-self}
+use native.Mathlib.Nat.{mod-eq-of-lt, lt-of-le-of-lt, div-lt-iff-lt-mul, div-eq-of-lt, div-le-self}
 use native.Mathlib.Numerals.{add-one}
 use lib.Bits.{bitOr, or-lt, or-add-and, and-le-l, and-le-r}
-use lib.Dec.{T, eqb, ltb, ltb→lt, lt→ltb, nltb→le, eqb→eq}
+use lib.Dec.{T, eqb, ltb, ltb→lt, lt→ltb, nltb→le, eqb→eq, lit<}
 use lib.IntN.{ℤ, pos, negsuc, _-ℤ_}
 use lib.ListN.{length, drop}
 use lib.Pow.{pow-pos, pow-mono}
@@ -59,6 +59,10 @@ allWithin-more below above l i b r h e = rw (add-one i, drop-cons l i (pos 0) h,
 pub allWithin-end : (below above : ℕ) (l : List ℤ) (i : ℕ) (b : Bool) → i ≡ length l → (b && allWithin below above (drop i l)) ≡ b
 unfolding allWithin
 allWithin-end below above l i b e = rw (e, drop-length) (and-true b)
+
+-- 1 shifted left
+pub shifted : (n : ℕ) → n ≤ 31 → (1 * 2 ^ n) % 4294967296 ≡ 2 ^ n
+shifted n h = let e : 1 * 2 ^ n ≡ 2 ^ n = omega arith in rw e (mod-eq-of-lt (lt-of-le-of-lt (pow-mono h) (lit< tt)))
 
 -- ---- the union of all bits: below 2^k when the bits of each number are
 pub union-test : (k u v : ℕ) → ltb (bitOr u v) (2 ^ k) ≡ (ltb u (2 ^ k) && ltb v (2 ^ k))

@@ -6,8 +6,7 @@ use Prim.Native.Nat.{ℕ, zero, suc, _*_}
 use native.Mathlib.Omega.{arith}
 use lib.Dec.{T, eqb, eqb→eq, eqb-refl}
 use lib.IntN.{pos}
-use lib.ListN.{length, take, drop, replicate, length-replicate}
-use lib.Seq.{length-front}
+use lib.ListN.{length, replicate, length-replicate}
 use Rattle.integers.proofs.Booleans.{and-iff, true-holds}
 use Rattle.stage.specs.Answers.{Test, _else_, refusal, between}
 use Rattle.stage.specs.Planes.{Plane, C1, C2, C3, Planes, triple, get}
@@ -16,6 +15,7 @@ use Rattle.stage.specs.Ranges.{sampleRanges, widest}
 use Rattle.stage.specs.Transform.{allFilters, choicesFit, lengths, isPicture}
 use Rattle.stage.specs.Estimate.{counted}
 use Rattle.stage.specs.Search.{rounds, searched, choicesEstimate, scratchSettings, clearedScratch, estimated, winners, Lent, searchCall}
+use Rattle.stage.proofs.Triples.{each-plane}
 use Rattle.stage.proofs.Answers.{Numbered, holds-refusal, refusal-holds, refusal-first, refusal-last, holds-append, outcome-refused}
 use Rattle.stage.proofs.Demand3.{withinRanges-iff}
 use Rattle.estimate.specs.declared.Estimated.the-variants.{Done, Refused}
@@ -39,20 +39,10 @@ pub searched-is : (e : List ℕ → ℕ) (n k : ℕ) (φ ψ χ : List ℕ) → l
 unfolding searched
 searched-is e n k φ ψ χ g f h = h ∙ ap (rounds e n k) (f ∙ ap (λ (m : ℕ). replicate {A = ℕ} m 0) g)
 
--- the whole cleared, after its front was lent
-pub whole-cleared : {A : Type 0} (z : A) (n : ℕ) (d e x : List A) → x ≡ replicate (length (e ++ drop n d)) z → length e ≡ length (take n d) → x ≡ replicate (length d) z
-whole-cleared {A} z n d e x p q = p ∙ ap (λ (m : ℕ). replicate {A = A} m z) (length-front d e n q)
-
 -- lists as long as those that were lent
 pub lent-cleared : (d e x : Planes) → ((c : Plane) → length (get e c) ≡ length (get d c)) → ((c : Plane) → get x c ≡ replicate (length (get e c)) (pos 0))
     → x ≡ triple (replicate (length (d .c1)) (pos 0)) (replicate (length (d .c2)) (pos 0)) (replicate (length (d .c3)) (pos 0))
 lent-cleared d e x g f = rw (sym (g C1), sym (g C2), sym (g C3), sym (f C1), sym (f C2), sym (f C3))
-
--- one fact for each plane
-pub each-plane : (P : Plane → Type 0) → P C1 → P C2 → P C3 → (c : Plane) → P c
-each-plane P x y z C1 = x
-each-plane P x y z C2 = y
-each-plane P x y z C3 = z
 
 -- ---- the call
 module _ (w h b t k : ℕ) (p : Planes) (m : Lent) where

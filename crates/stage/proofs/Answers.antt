@@ -1,13 +1,14 @@
--- Laws of refusals in order: a call succeeds exactly when every test of its list holds.
+-- Laws of refusals in order: a call succeeds exactly when every test of its list holds. And what the tests of numbers say.
 use mathlib.Core.Path.{_≡_, refl, ap, sym, _∙_}
 use mathlib.Core.Bool.{Bool, true, false, cond}
 use mathlib.Core.Logic.{_↔_}
 use mathlib.Core.List.{List, [], _∷_, _++_}
-use Prim.Native.Nat.{ℕ, zero, suc}
+use Prim.Native.Nat.{ℕ, zero, suc, _≤_}
 use native.Mathlib.Omega.{arith}
-use lib.Dec.{T, ltb, eqb, eqb·suc-zero}
+use lib.Dec.{T, ltb, leb, eqb, leb→le, le→leb, eqb·suc-zero}
 use borrow.Author.Tests.{ne-eqb}
-use Rattle.stage.specs.Answers.{Reply, done, refused, Test, _else_, refusal, answer, Outcome, outcome}
+use Rattle.integers.proofs.Booleans.{and-iff}
+use Rattle.stage.specs.Answers.{done, refused, Test, _else_, refusal, answer, Outcome, outcome, between, sized}
 
 -- every test holds
 abbrev pub Holds : List Test → Type 0
@@ -74,3 +75,16 @@ module _ {A M : Type 0} (v : A) (result before : M) where
         (refusal-holds l k z, ap (λ (o : Outcome A M). o .memory) (sym (outcome-done l z) ∙ e)),
     λ h. outcome-done l (holds-refusal l (h .0)) ∙ ap (λ (m : M). record { reply = done v; memory = m }) (h .1),
   )
+
+-- ---- tests of numbers
+pub between-iff : (low high n : ℕ) → T (between low high n) ↔ ((low ≤ n) × (n ≤ high))
+between-iff low high n =
+    let e = and-iff (leb low n) (leb n high) in
+    (λ t. (leb→le low n (e .0 t .0), leb→le n high (e .0 t .1)), λ h. e .1 (le→leb low n (h .0), le→leb n high (h .1)))
+
+pub sized-iff : (w h : ℕ) → T (sized w h) ↔ (((1 ≤ w) × (w ≤ 8192)) × ((1 ≤ h) × (h ≤ 8192)))
+sized-iff w h =
+    let e = and-iff (between 1 8192 w) (between 1 8192 h) in
+    let x = between-iff 1 8192 w in
+    let y = between-iff 1 8192 h in
+    (λ t. (x .0 (e .0 t .0), y .0 (e .0 t .1)), λ r. e .1 (x .1 (r .0), y .1 (r .1)))

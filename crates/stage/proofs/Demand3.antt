@@ -1,46 +1,40 @@
 -- Demand 3: the inverse accepts exactly the planes that a picture goes to, and leaves that picture.
 use mathlib.Core.Path.{_≡_, refl, ap, sym, _∙_, subst}
-use mathlib.Core.Bool.{Bool, true, false, cond, _&&_}
+use mathlib.Core.Bool.{Bool, true, false, cond}
 use mathlib.Core.Logic.{_↔_}
 use mathlib.Core.List.{List, [], _∷_, _++_}
-use Prim.Native.Nat.{ℕ, zero, suc, _*_, _≤_}
+use Prim.Native.Nat.{ℕ, _*_}
 use native.Mathlib.Omega.{arith}
-use lib.Dec.{T, leb, eqb, le→leb, leb→le, eqb→eq, eqb-refl}
-use lib.IntN.{ℤ}
+use lib.Dec.{T, eqb, le→leb, leb→le, eqb→eq, eqb-refl}
 use lib.ListN.{length}
-use Rattle.integers.specs.Lists.{AllIn, allWithin}
-use Rattle.integers.proofs.Booleans.{and-iff, fails-false}
+use Rattle.integers.specs.Lists.{AllIn}
+use Rattle.integers.proofs.Booleans.{fails-false}
 use Rattle.integers.proofs.Lists.{allWithin-iff}
-use Rattle.stage.specs.Answers.{Test, _else_, Outcome, outcome, refusal, done, refused, sized, between}
-use Rattle.stage.specs.Planes.{Plane, C1, C2, C3, Triple, Planes, get}
+use Rattle.stage.specs.Answers.{Test, _else_, Outcome, refusal, done, refused}
+use Rattle.stage.specs.Planes.{Plane, Triple, Planes, get}
 use Rattle.stage.specs.Steps.{steps}
 use Rattle.stage.specs.Ranges.{Range, sampleRanges, finishedRanges, withinRange, withinRanges, InRanges}
 use Rattle.stage.specs.Transform.{choicesFit, lengths, allEqual, settings, setup, transformed, untransformed, isPicture, forward, inverse}
-use Rattle.stage.specs.Theorems.{Picture, GoesTo, Allowed, accepted, Demand3, Demand3Holds, CallsInverse}
-use Rattle.stage.proofs.Answers.{Holds, Numbered, holds-refusal, refusal-past, refusal-holds, holds-append, done-refusal, outcome-refused, outcome-iff}
-use Rattle.stage.proofs.Reversal.{steps-cancel, run-length, undo-length}
+use Rattle.stage.specs.Theorems.{GoesTo, Allowed, accepted, Demand3, Demand3Holds, CallsInverse}
+use Rattle.stage.proofs.Answers.{Holds, refusal-past, holds-append, done-refusal, outcome-refused, outcome-iff}
+use Rattle.stage.proofs.Triples.{each-test}
+use Rattle.stage.proofs.Reversal.{steps-cancel, run-length}
 use Rattle.stage.proofs.StepRanges.{run-in}
 
 -- ---- the tests, as facts
 pub withinRanges-iff : (r : Triple Range) (p : Planes) → T (withinRanges r p) ↔ InRanges r p
-withinRanges-iff r p = (
-  λ t. let h = and-iff (withinRange (r .c1) (p .c1)) _ .0 t in let k = and-iff (withinRange (r .c2) (p .c2)) _ .0 (h .1) in
-      λ c. elim c as (λ (c : Plane). AllIn (get r c .below) (get r c .above) (get p c)) [ C1 ↦ one C1 .0 (h .0) | C2 ↦ one C2 .0 (k .0) | C3 ↦ one C3 .0 (k .1) ],
-  λ w. and-iff (withinRange (r .c1) (p .c1)) _ .1 (one C1 .1 (w C1), and-iff (withinRange (r .c2) (p .c2)) _ .1 (one C2 .1 (w C2), one C3 .1 (w C3))),
-)
-  where
-    one : (c : Plane) → T (withinRange (get r c) (get p c)) ↔ AllIn (get r c .below) (get r c .above) (get p c)
-    one c = allWithin-iff (get r c .below) (get r c .above) (get p c)
+withinRanges-iff r p =
+    let e = each-test (λ c. withinRange (get r c) (get p c)) in
+    let one : (c : Plane) → T (withinRange (get r c) (get p c)) ↔ AllIn (get r c .below) (get r c .above) (get p c) = λ c. allWithin-iff (get r c .below) (get r c .above) (get p c) in
+    (λ t c. one c .0 (e .0 t c), λ w. e .1 (λ c. one c .1 (w c)))
 
 eq-test : {m n : ℕ} → m ≡ n → T (eqb m n)
 eq-test {m} e = subst (λ (k : ℕ). T (eqb m k)) e (eqb-refl m)
 
 pub allEqual-iff : (n : ℕ) (p : Planes) → T (allEqual n (lengths p)) ↔ ((c : Plane) → length (get p c) ≡ n)
-allEqual-iff n p = (
-  λ t. let h = and-iff (eqb (length (p .c1)) n) _ .0 t in let k = and-iff (eqb (length (p .c2)) n) _ .0 (h .1) in
-      λ c. elim c as (λ (c : Plane). length (get p c) ≡ n) [ C1 ↦ eqb→eq _ _ (h .0) | C2 ↦ eqb→eq _ _ (k .0) | C3 ↦ eqb→eq _ _ (k .1) ],
-  λ w. and-iff (eqb (length (p .c1)) n) _ .1 (eq-test (w C1), and-iff (eqb (length (p .c2)) n) _ .1 (eq-test (w C2), eq-test (w C3))),
-)
+allEqual-iff n p =
+    let e = each-test (λ c. eqb (length (get p c)) n) in
+    (λ t c. eqb→eq (length (get p c)) n (e .0 t c), λ w. e .1 (λ c. eq-test (w c)))
 
 -- the five settings' numbers and the last one are none of them 0
 abbrev numbered : Unit {0} × (Unit {0} × (Unit {0} × (Unit {0} × (Unit {0} × (Unit {0} × Unit {0})))))

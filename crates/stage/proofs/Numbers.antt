@@ -1,24 +1,24 @@
 -- Every number that the calls meet lies within ±2^19, and the sums of a window fit 32 signed bits.
-use mathlib.Core.Path.{_≡_, refl}
+use mathlib.Core.Path.{refl}
 use mathlib.Core.Bool.{Bool, true, false, cond, _&&_}
-use mathlib.Core.List.{List}
-use Prim.Native.Nat.{ℕ, zero, suc, _+_, _*_, _-_, _≤_, _^_, max}
+use Prim.Native.Nat.{ℕ, zero, suc, _+_, _≤_, _^_}
 use native.Mathlib.Nat.{mul-le-mul-right}
 use native.Mathlib.Omega.{arith}
 use lib.Dec.{T, leb, leb→le, eqb}
 use lib.Pow.{pow-mono}
-use lib.IntN.{ℤ, pos, _+ℤ_, _*ℤ_}
+use lib.IntN.{pos, _+ℤ_, _*ℤ_}
 use lib.ListN.{take, drop}
 use Rattle.integers.specs.Parts.{In}
 use Rattle.integers.proofs.Booleans.{and-iff}
 use Rattle.integers.proofs.Parts.{add-difference, scale-parts}
 use Rattle.integers.proofs.Ranges.{in-fits}
-use Rattle.stage.specs.Planes.{Plane, C1, C2, C3, Triple, Planes, get}
+use Rattle.stage.specs.Planes.{Plane, C1, C2, C3, Triple, get}
 use Rattle.stage.specs.Filter.{inside, weight, weightSum, weightedSum, windowIndex, windowSample}
 use Rattle.stage.specs.Steps.{steps}
 use Rattle.stage.specs.Ranges.{Range, ranges, undoneRanges, sampleRange, sampleRanges, finishedRanges, extent, widest}
 use Rattle.stage.specs.Transform.{setup}
 use Rattle.stage.specs.Theorems.{bounded, MetForward, MetBack, WindowFits}
+use Rattle.stage.proofs.Triples.{each-plane, each-test}
 use Rattle.stage.proofs.Means.{weightedSum-in}
 use Rattle.stage.proofs.StepRanges.{Inside, AllInside, inside-trans, take-inside, drop-inside, ranges-inside, undoneRanges-inside, in-inside, run-in, undo-in}
 
@@ -37,17 +37,14 @@ inside-by r R t =
 
 all-inside-by : (r R : Triple Range) → T (allInsideTest r R) → AllInside r R
 unfolding allInsideTest
-all-inside-by r R t =
-    let k = and-iff (insideTest (r .c1) (R .c1)) _ .0 t in
-    let m = and-iff (insideTest (r .c2) (R .c2)) _ .0 (k .1) in
-    λ c. elim c as (λ (c : Plane). Inside (get r c) (get R c)) [ C1 ↦ inside-by (r .c1) (R .c1) (k .0) | C2 ↦ inside-by (r .c2) (R .c2) (m .0) | C3 ↦ inside-by (r .c3) (R .c3) (m .1) ]
+all-inside-by r R t = λ c. inside-by (get r c) (get R c) (each-test (λ (c : Plane). insideTest (get r c) (get R c)) .0 t c)
 
 -- ---- depth 16 holds every depth
 pub depth-inside : (b : ℕ) → b ≤ 16 → AllInside (sampleRanges b) (sampleRanges 16)
 depth-inside b h =
     let m = pow-mono {i = b} {j = 16} h in
     let i : Inside (sampleRange b) (sampleRange 16) = omega arith in
-    λ c. elim c as (λ (c : Plane). Inside (get (sampleRanges b) c) (get (sampleRanges 16) c)) [ C1 ↦ i | C2 ↦ i | C3 ↦ i ]
+    each-plane (λ (c : Plane). Inside (get (sampleRanges b) c) (get (sampleRanges 16) c)) i i i
 
 pub finished-inside : (t b : ℕ) → b ≤ 16 → AllInside (finishedRanges t b) (finishedRanges t 16)
 finished-inside t b h = ranges-inside (steps t) (sampleRanges b) (sampleRanges 16) (depth-inside b h)

@@ -10,7 +10,7 @@ use lib.Signed.{leZ}
 use borrow.Table.Steps.{cases}
 use Rattle.integers.specs.Parts.{posPart, negPart, In}
 use Rattle.integers.specs.Lists.{at, AllIn}
-use Rattle.integers.proofs.Booleans.{holds-true, true-holds, and-iff}
+use Rattle.integers.proofs.Booleans.{holds-true, true-holds, and-iff, and-false}
 use Rattle.integers.proofs.Parts.{add-difference, neg-parts, one-part, eq-parts}
 use Rattle.integers.proofs.Order.{leZ-true, leZ-false, true-leZ, false-leZ}
 use Rattle.integers.proofs.Ranges.{in-zero, in-sub, in-wider}
@@ -29,10 +29,6 @@ lesser a b = cond (leZ a b) a b
 
 abbrev pub greater : ℤ → ℤ → ℤ
 greater a b = cond (leZ a b) b a
-
-and-false : (b : Bool) → (b && false) ≡ false
-and-false true = refl
-and-false false = refl
 
 greater-le : (a b c : ℤ) → leZ (greater a b) c ≡ (leZ a c && leZ b c)
 greater-le a b c = leZ-cases a b

@@ -6,7 +6,7 @@ use mathlib.Core.List.{List, [], _∷_}
 use Prim.Native.Nat.{ℕ, zero, suc}
 use lib.Dec.{T}
 use lib.IntN.{ℤ, pos, _+ℤ_, +ℤ-negℤ-cancel, -ℤ-+ℤ-cancel, negℤ-+ℤ, negℤ-negℤ}
-use lib.ListN.{length}
+use lib.ListN.{length, take, drop}
 use Rattle.integers.specs.Parts.{floorDiv}
 use Rattle.integers.specs.Lists.{at, mapIndexed}
 use Rattle.integers.proofs.Lists.{mapIndexed-inverse, mapIndexed-every, length-mapIndexed}
@@ -35,6 +35,16 @@ apart (suc zero) = (tt, (tt, (tt, (tt, tt))))
 apart (suc (suc zero)) = (tt, (tt, tt))
 apart (suc (suc (suc zero))) = (tt, (tt, (tt, tt)))
 apart (suc (suc (suc (suc t)))) = tt
+
+pub apart-take : (i : ℕ) (l : List Step) → Apart l → Apart (take i l)
+apart-take zero l h = tt
+apart-take (suc i) [] h = tt
+apart-take (suc i) (s ∷ l) h = (h .0, apart-take i l (h .1))
+
+pub apart-drop : (i : ℕ) (l : List Step) → Apart l → Apart (drop i l)
+apart-drop zero l h = h
+apart-drop (suc i) [] h = tt
+apart-drop (suc i) (s ∷ l) h = apart-drop i l (h .1)
 
 -- a change and its opposite, each result kept
 pub record Reversible (keep : ℤ → ℤ) : Type 0 where

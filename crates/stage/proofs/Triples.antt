@@ -1,8 +1,25 @@
 -- Laws of one thing for each plane.
 use mathlib.Core.Path.{_≡_, refl}
-use mathlib.Core.Bool.{not}
+use mathlib.Core.Bool.{Bool, not, _&&_}
+use mathlib.Core.Logic.{_↔_}
 use lib.Dec.{T}
+use Rattle.integers.proofs.Booleans.{and-iff}
 use Rattle.stage.specs.Planes.{Plane, C1, C2, C3, Triple, get, put, samePlane}
+
+-- one fact for each plane
+pub each-plane : (P : Plane → Type 0) → P C1 → P C2 → P C3 → (c : Plane) → P c
+each-plane P x y z C1 = x
+each-plane P x y z C2 = y
+each-plane P x y z C3 = z
+
+-- one test for each plane
+pub each-test : (t : Plane → Bool) → T (t C1 && (t C2 && t C3)) ↔ ((c : Plane) → T (t c))
+each-test t =
+    let all = and-iff (t C1) (t C2 && t C3) in
+    let rest = and-iff (t C2) (t C3) in (
+      λ h. let k = all .0 h in let m = rest .0 (k .1) in each-plane (λ c. T (t c)) (k .0) (m .0) (m .1),
+      λ h. all .1 (h C1, rest .1 (h C2, h C3)),
+    )
 
 module _ {A : Type 0} where
   pub get-put : (p : Triple A) (c : Plane) (a : A) → get (put p c a) c ≡ a

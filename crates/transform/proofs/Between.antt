@@ -1,7 +1,7 @@
 -- Steps of a transform one after another, and that planes are ready before each.
 use mathlib.Core.Path.{_≡_, refl, sym, ap, _∙_, subst}
 use mathlib.Core.List.{List, [], _∷_, _++_}
-use Prim.Native.Nat.{ℕ, zero, suc, _+_, _*_, _-_, _≤_, _<_}
+use Prim.Native.Nat.{ℕ, suc, _+_, _*_, _-_, _≤_, _<_}
 use native.Mathlib.Omega.{arith}
 use lib.ListN.{length, take, drop, length-drop, take-append-drop}
 use lib.Seq.{take-suc, take-all, take-add, drop-cons, getD-drop}
@@ -11,7 +11,8 @@ use Rattle.stage.specs.Steps.{Setup, Step, steps, step, run, undo, reversed}
 use Rattle.stage.specs.Ranges.{sampleRanges, finishedRanges, InRanges}
 use Rattle.stage.specs.Transform.{setup}
 use Rattle.stage.specs.Theorems.{bounded}
-use Rattle.stage.proofs.Reversal.{Apart, apart, unchanged, run-undo, run-length, undo-length}
+use Rattle.stage.proofs.Triples.{each-plane}
+use Rattle.stage.proofs.Reversal.{apart, apart-take, unchanged, run-undo, run-length, undo-length}
 use Rattle.stage.proofs.Numbers.{met-forward, met-back}
 use Rattle.transform.specs.Passes.{anyStep, stepAt}
 use Rattle.transform.specs.Between.{stepsBetween, Ready, ReadyForward, ReadyBack}
@@ -30,8 +31,9 @@ between-none t k = let e : k - k ≡ 0 = omega arith in rw e
 pub between-first : (t k : ℕ) → stepsBetween t 0 k ≡ take k (steps t)
 between-first t k = let e : k - 0 ≡ k = omega arith in rw e
 
-pub between-last : (t k : ℕ) → stepsBetween t k (length (steps t)) ≡ drop k (steps t)
-between-last t k = take-all (length (steps t) - k) (drop k (steps t)) (omega (arith, length-drop k (steps t)))
+-- all steps from k on
+pub between-last : (t k n : ℕ) → n ≡ length (steps t) → stepsBetween t k n ≡ drop k (steps t)
+between-last t k n e = take-all (n - k) (drop k (steps t)) (omega (arith, length-drop k (steps t)))
 
 -- first the steps before `from`, then those up to k
 pub between-after : (t from k : ℕ) → from ≤ k → take k (steps t) ≡ take from (steps t) ++ stepsBetween t from k
@@ -75,15 +77,7 @@ pub undo-same : (σ : Setup) (l : List Step) (p q : Planes) → q ≡ undo σ l 
 undo-same σ l p q e c = ap (λ (x : Planes). length (get x c)) e ∙ undo-length σ l p c
 
 all-small : (p : Planes) → InRanges bounded p → (c : Plane) → AllIn 524288 524288 (get p c)
-all-small p h C1 = h C1
-all-small p h C2 = h C2
-all-small p h C3 = h C3
-
-apart-take : (l : List Step) (k : ℕ) → Apart l → Apart (take k l)
-apart-take [] zero a = tt
-apart-take [] (suc k) a = tt
-apart-take (s ∷ l) zero a = tt
-apart-take (s ∷ l) (suc k) a = (a .0, apart-take l k (a .1))
+all-small p h = each-plane (λ (c : Plane). AllIn 524288 524288 (get p c)) (h C1) (h C2) (h C3)
 
 module _ (w h b t : ℕ) (φ : List ℕ) (deep : b ≤ 16) where
   abbrev σ : Setup
@@ -94,7 +88,7 @@ module _ (w h b t : ℕ) (φ : List ℕ) (deep : b ≤ 16) where
   undo-part k q =
       ap (λ (l : List Step). run σ (take k (steps t)) (undo σ l q)) (sym (take-append-drop k (steps t)))
       ∙ ap (run σ (take k (steps t))) (undo-append σ (take k (steps t)) (drop k (steps t)) q)
-      ∙ run-undo σ (unchanged (λ x. refl)) (take k (steps t)) (apart-take (steps t) k (apart t)) (undo σ (drop k (steps t)) q) (λ c i. refl)
+      ∙ run-undo σ (unchanged (λ x. refl)) (take k (steps t)) (apart-take k (steps t) (apart t)) (undo σ (drop k (steps t)) q) (λ c i. refl)
 
   -- a picture's way forward, from any step on
   pub ready-forward : (from to : ℕ) (p : Planes) → InRanges (sampleRanges b) p → ((c : Plane) → length (get p c) ≡ w * h)
@@ -110,7 +104,7 @@ module _ (w h b t : ℕ) (φ : List ℕ) (deep : b ≤ 16) where
     undone-ready k = record { size = λ c. undo-length σ (drop k (steps t)) q c ∙ z c; small = all-small _ (met-back w h b t k φ q deep r) }
 
     pub ready-back : ReadyBack w h σ t 0 (length (steps t)) q
-    ready-back = record { before = λ k f g. rw (between-last t (suc k)) (undone-ready (suc k)) }
+    ready-back = record { before = λ k f g. rw (between-last t (suc k) (length (steps t)) refl) (undone-ready (suc k)) }
 
     -- and the way forward again
     pub ready-again : ReadyForward w h σ t 0 (length (steps t)) (undo σ (steps t) q)

@@ -4,16 +4,16 @@ use mathlib.Core.Bool.{Bool, true, false, cond}
 use mathlib.Core.List.{List, [], _∷_, _++_}
 use Prim.Native.Nat.{ℕ, _*_, _≤_}
 use native.Mathlib.Omega.{arith}
-use lib.Dec.{T, leb, leb→le}
+use lib.Dec.{T}
 use lib.ListN.{length}
-use Rattle.integers.proofs.Booleans.{and-iff, true-holds}
+use Rattle.integers.proofs.Booleans.{true-holds}
 use Rattle.stage.specs.Answers.{Test, _else_, refusal, outcome}
 use Rattle.stage.specs.Planes.{Plane, Planes, get}
 use Rattle.stage.specs.Steps.{Step, steps, run, undo}
 use Rattle.stage.specs.Ranges.{sampleRanges, finishedRanges, withinRanges, InRanges}
 use Rattle.stage.specs.Transform.{choicesFit, lengths, settings, setup, transformed, untransformed, isPicture, forward, inverse}
 use Rattle.stage.specs.Theorems.{Allowed}
-use Rattle.stage.proofs.Answers.{refusal-holds, refusal-past, refusal-first, outcome-done, outcome-refused}
+use Rattle.stage.proofs.Answers.{refusal-holds, refusal-past, refusal-first, outcome-done, outcome-refused, between-iff}
 use Rattle.stage.proofs.Reversal.{steps-cancel}
 use Rattle.stage.proofs.Demand3.{withinRanges-iff, settings-iff, demand3}
 use Rattle.transform.specs.declared.Answer.the-variants.{Done, Refused}
@@ -38,8 +38,8 @@ module _ (w h b t : ℕ) (φ : List ℕ) (p : Planes) (fit : Bool) (n : ℕ) (f 
   pub passed : n ≡ 0 → Passed w h b t φ p
   passed z =
       let k = settings-iff w h b t φ p .0 (refusal-holds tests (tt, (tt, (tt, (tt, (tt, tt))))) (sym number ∙ z)) in
-      let d = and-iff (leb 2 b) (leb b 16) .0 (k .0 .depth) in
-      record { allowed = k .0; least = leb→le 2 b (d .0); most = leb→le b 16 (d .1); size = k .1 }
+      let d = between-iff 2 16 b .0 (k .0 .depth) in
+      record { allowed = k .0; least = d .0; most = d .1; size = k .1 }
 
   -- a setting refused, whatever is tested after it
   refused-by : (last : Test) (result : Planes) → (n ≡ 0 → ⊥) → outcomeOf (Refused n) p ≡ outcome (tests ++ last ∷ []) tt result p
@@ -68,16 +68,13 @@ module _ (w h b t : ℕ) (φ : List ℕ) (p : Planes) (k : Passed w h b t φ p) 
   refused-last ok n result q e g s =
       ap (outcomeOf (Refused n)) g ∙ sym (outcome-refused tt result p (all ok n) n (sym (last-decides ok n ∙ ap (λ (x : Bool). cond x 0 n) e)) s)
 
-  all-steps : stepsBetween t 0 (length (steps t)) ≡ steps t
-  all-steps = between-last t 0
-
   run-all : (n : ℕ) → n ≡ length (steps t) → (x : Planes) → run (setup w h φ) (stepsBetween t 0 n) x ≡ transformed w h t φ x
   unfolding transformed
-  run-all n e x = ap (λ (m : ℕ). run (setup w h φ) (stepsBetween t 0 m) x) e ∙ ap (λ (l : List Step). run (setup w h φ) l x) all-steps
+  run-all n e x = ap (λ (l : List Step). run (setup w h φ) l x) (between-last t 0 n e)
 
   undo-all : (n : ℕ) → n ≡ length (steps t) → (x : Planes) → undo (setup w h φ) (stepsBetween t 0 n) x ≡ untransformed w h t φ x
   unfolding untransformed
-  undo-all n e x = ap (λ (m : ℕ). undo (setup w h φ) (stepsBetween t 0 m) x) e ∙ ap (λ (l : List Step). undo (setup w h φ) l x) all-steps
+  undo-all n e x = ap (λ (l : List Step). undo (setup w h φ) l x) (between-last t 0 n e)
 
   -- ---- forward
   pub forward-no-picture : isPicture b p ≡ false → outcomeOf (Refused 11) p ≡ forward w h b t φ p
@@ -107,7 +104,7 @@ module _ (w h b t : ℕ) (φ : List ℕ) (p : Planes) (k : Passed w h b t φ p) 
       again-ready u g =
           subst (λ (m : ℕ). ReadyForward w h (setup w h φ) t 0 m u) (sym e)
           (subst (ReadyForward w h (setup w h φ) t 0 (length (steps t)))
-          (sym (g ∙ ap (λ (m : ℕ). undo (setup w h φ) (stepsBetween t 0 m) p) e ∙ ap (λ (l : List Step). undo (setup w h φ) l p) all-steps))
+          (sym (g ∙ ap (λ (l : List Step). undo (setup w h φ) l p) (between-last t 0 n e)))
           (ready-again w h b t φ (k .most) p ranges (k .size)))
 
     module _ (u : Planes) (g : u ≡ undo (setup w h φ) (stepsBetween t 0 n) p) where

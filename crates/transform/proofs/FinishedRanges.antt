@@ -1,11 +1,8 @@
 -- The rows of 01's table are the ranges of finished planes, and none of their ends is large.
 use mathlib.Core.Path.{_≡_, refl, sym, ap, _∙_, subst}
 use mathlib.Core.List.{List, map}
-use Prim.Native.Nat.{ℕ, zero, suc, _*_, _%_, _-_, _^_, _≤_}
+use Prim.Native.Nat.{ℕ, zero, suc, _-_, _^_, _≤_}
 use native.Mathlib.Omega.{arith}
-use native.Mathlib.Nat.{mod-eq-of-lt, lt-of-le-of-lt}
-use lib.Dec.{lit<}
-use lib.Pow.{pow-mono}
 use lib.ListN.{getD}
 use Rattle.stage.specs.Planes.{Triple, C1, C2, C3}
 use Rattle.stage.specs.Steps.{transforms}
@@ -15,9 +12,6 @@ use Rattle.stage.proofs.RangeTable.{ranges-are-table}
 use Rattle.stage.proofs.Numbers.{finished-within}
 use Rattle.transform.specs.declared.ranges.Ranges.{Ranges}
 use Rattle.transform.specs.FinishedRanges.{readRanges}
-
-pub shifted : (n : ℕ) → n ≤ 16 → (1 * 2 ^ n) % 4294967296 ≡ 2 ^ n
-shifted n h = let e : 1 * 2 ^ n ≡ 2 ^ n = omega arith in rw e (mod-eq-of-lt (lt-of-le-of-lt (pow-mono h) (lit< tt)))
 
 -- row k of the table is that of transform k
 pub finished-row : (t b m h q k : ℕ) (r : Triple Range) → 2 ≤ b → m ≡ 2 ^ b - 1 → h ≡ 2 ^ (b - 1) → q ≡ 2 ^ (b - 2) → t ≡ k → k ≤ 3

@@ -10,12 +10,12 @@ use lib.ListN.{take, drop}
 use Rattle.integers.proofs.Lists.{all-wider}
 use Rattle.stage.specs.Planes.{Plane, C1, C2, C3, Triple, Planes, get}
 use Rattle.stage.specs.Steps.{Step, steps, run}
-use Rattle.stage.specs.Ranges.{Range, sampleRanges, finishedRanges, InRanges, extent, widest}
+use Rattle.stage.specs.Ranges.{Range, sampleRanges, finishedRanges, InRanges, extent}
 use Rattle.stage.specs.Transform.{setup}
 use Rattle.stage.specs.Estimate.{planeEstimate, pictureEstimate}
 use Rattle.stage.proofs.Reversal.{run-length}
 use Rattle.stage.proofs.StepRanges.{run-in, take-inside, in-inside}
-use Rattle.stage.proofs.Numbers.{widest-most}
+use Rattle.stage.proofs.Numbers.{extent-widest, widest-most}
 use Rattle.trials.specs.Trials.{changes, changed, others, partEstimate, TrialPlanes}
 use Rattle.trials.proofs.Suffixes.{ranges-next}
 
@@ -53,9 +53,7 @@ module _ {w h t d s : ℕ} {q : Planes} (z : TrialPlanes w h t d s q) where
   trial-finished = in-inside _ (finishedRanges t (z .depth)) (take-inside (steps t) s (sampleRanges (z .depth))) q (z .inside)
 
   pub extent-most : (c : Plane) → extent (get (finishedRanges t (z .depth)) c) ≤ d
-  extent-most C1 = rw (z .extent) (omega arith)
-  extent-most C2 = rw (z .extent) (omega arith)
-  extent-most C3 = rw (z .extent) (omega arith)
+  extent-most c = rw (z .extent) (extent-widest t (z .depth) c)
 
   pub trial-small : d ≤ 262144
   trial-small = rw (z .extent) (widest-most t (z .depth) (z .deep))

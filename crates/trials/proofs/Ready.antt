@@ -4,8 +4,8 @@ use mathlib.Core.Bool.{Bool}
 use mathlib.Core.List.{List, [], _∷_, _++_}
 use Prim.Native.Nat.{ℕ, zero, suc, _+_, _-_, _≤_}
 use native.Mathlib.Omega.{arith}
-use lib.Dec.{T, leb, leb→le, le→leb, eqb, eqb→eq}
-use lib.ListN.{length, take, drop, getD, set, length-set}
+use lib.Dec.{T, leb, le→leb, eqb}
+use lib.ListN.{length, take, drop, set, length-set}
 use lib.Seq.{take-add, drop-drop}
 use Rattle.integers.proofs.Booleans.{and-iff}
 use Rattle.stage.specs.Planes.{Plane, Triple, Planes, get}
@@ -25,10 +25,6 @@ between-split t i j k g h =
     let n : i + (j - i) ≡ j = omega arith in
     ap (λ (x : ℕ). take x (drop i (steps t))) m ∙ take-add (j - i) (k - j) (drop i (steps t))
     ∙ ap (λ (l : List Step). stepsBetween t i j ++ take (k - j) l) (drop-drop (j - i) i (steps t) ∙ ap (λ (x : ℕ). drop x (steps t)) n)
-
--- all steps from i on
-pub between-rest : (t i k : ℕ) → k ≡ length (steps t) → stepsBetween t i k ≡ drop i (steps t)
-between-rest t i k e = rw e (between-last t i)
 
 -- run to k, undone back to j: run to j
 pub back-to : (w h t i j k : ℕ) (φ : List ℕ) (q : Planes) → i ≤ j → j ≤ k
@@ -82,7 +78,7 @@ unfolding trialEstimate
 trial-sum w h t s n φ q p b base e length-is ran set-is base-is e-is =
     let l = drop s (steps t) in
     let σ = setup w h φ in
-    let r : p ≡ run σ l q = ran ∙ ap (λ (m : List Step). run σ m q) (between-rest t s n length-is) in
+    let r : p ≡ run σ l q = ran ∙ ap (λ (m : List Step). run σ m q) (between-last t s n length-is) in
     let x : e ≡ partEstimate w (changed l) (run σ l q) = e-is ∙ ap (λ (c : Triple Bool). partEstimate w c p) set-is ∙ ap (partEstimate w (changed l)) r in
     omega (arith, base-is, x, parts-estimate w l q (run σ l q) (λ c. run-unchanged σ l c q))
 
@@ -94,22 +90,8 @@ filters-set (x ∷ l) (suc k) f g h =
     let b = and-iff (leb x 12) (allFilters l) .0 h in
     and-iff (leb x 12) (allFilters (set l k f)) .1 (b .0, filters-set l k f g (b .1))
 
-pub filter-most : (φ : List ℕ) (k : ℕ) → T (allFilters φ) → getD φ k 0 ≤ 12
-filter-most [] k h = omega arith
-filter-most (x ∷ l) zero h = leb→le x 12 (and-iff (leb x 12) (allFilters l) .0 h .0)
-filter-most (x ∷ l) (suc k) h = filter-most l k (and-iff (leb x 12) (allFilters l) .0 h .1)
-
-module _ (t : ℕ) (φ : List ℕ) (h : T (choicesFit t φ)) where
-  abbrev both : T (eqb (length φ) (places (steps t))) × T (allFilters φ)
-  both = and-iff (eqb (length φ) (places (steps t))) (allFilters φ) .0 h
-
-  pub choices-count : length φ ≡ places (steps t)
-  choices-count = eqb→eq (length φ) (places (steps t)) (both .0)
-
-  pub choice-most : (k : ℕ) → getD φ k 0 ≤ 12
-  choice-most k = filter-most φ k (both .1)
-
-  pub choices-set : (k f : ℕ) → f ≤ 12 → T (choicesFit t (set φ k f))
-  choices-set k f g =
-      and-iff (eqb (length (set φ k f)) (places (steps t))) (allFilters (set φ k f)) .1
-      (rw (length-set φ k f) (both .0), filters-set φ k f g (both .1))
+pub choices-set : (t : ℕ) (φ : List ℕ) → T (choicesFit t φ) → (k f : ℕ) → f ≤ 12 → T (choicesFit t (set φ k f))
+choices-set t φ h k f g =
+    let both = and-iff (eqb (length φ) (places (steps t))) (allFilters φ) .0 h in
+    and-iff (eqb (length (set φ k f)) (places (steps t))) (allFilters (set φ k f)) .1
+    (rw (length-set φ k f) (both .0), filters-set φ k f g (both .1))

@@ -12,12 +12,13 @@ use Rattle.stage.specs.Steps.{Step, steps, places, run}
 use Rattle.stage.specs.Transform.{setup, choicesFit, transformed}
 use Rattle.stage.specs.Estimate.{pictureEstimate}
 use Rattle.stage.specs.Search.{winner, round, rounds, choicesEstimate}
+use Rattle.transform.proofs.Passes.{choices-fitting}
 use Rattle.transform.proofs.Between.{run-append, between-first}
 use Rattle.transform.specs.Between.{stepsBetween}
 use Rattle.trials.specs.Trials.{hasPlace, stepOf, trialEstimate}
 use Rattle.trials.proofs.Suffixes.{run-rest, run-before}
 use Rattle.trials.proofs.Tables.{step-order}
-use Rattle.trials.proofs.Ready.{between-split, choice-most, choices-set}
+use Rattle.trials.proofs.Ready.{between-split, choices-set}
 use Rattle.trials.proofs.Choices.{winner-same, winner-filter}
 
 pub step-inside : (l : List Step) (k : ℕ) → stepOf l k ≤ length l
@@ -79,7 +80,7 @@ module _ (w h t : ℕ) (p : Planes) where
         choices = rw (add-one k) (m ∙ ap (λ (l : List ℕ). set l k (winner estimates l k 13)) (a .choices));
         planes = g ∙ f ∙ sym (ap (λ (l : List ℕ). before l s) m ∙ before-same ψ k n s e);
         estimate = d ∙ ap (trialEstimate w h t s r) m ∙ place-estimate ψ k n s r e f ∙ ap estimates (sym m);
-        fit = subst (λ (l : List ℕ). T (choicesFit t l)) (sym m) (choices-set t ψ (a .fit) k n (winner-filter estimates ψ k 13 (choice-most t ψ (a .fit) k) (omega arith)));
+        fit = subst (λ (l : List ℕ). T (choicesFit t l)) (sym m) (choices-set t ψ (a .fit) k n (winner-filter estimates ψ k 13 (choices-fitting t ψ (a .fit) .most k) (omega arith)));
         order = λ j. rw e (step-order t k j);
         inside = rw e (step-inside (steps t) k);
       }

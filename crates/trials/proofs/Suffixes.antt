@@ -2,7 +2,7 @@
 use mathlib.Core.Path.{_≡_, refl, ap, ap₂, sym, _∙_}
 use mathlib.Core.Bool.{Bool, true, false, cond, _||_}
 use mathlib.Core.List.{List, [], _∷_, _++_}
-use Prim.Native.Nat.{ℕ, zero, suc, _+_}
+use Prim.Native.Nat.{ℕ, suc, _+_}
 use native.Mathlib.Omega.{arith}
 use borrow.Author.Tests.{eqb-false}
 use lib.IntN.{ℤ, _+ℤ_}
@@ -17,7 +17,7 @@ use Rattle.stage.specs.Steps.{Setup, Step, Term, _ᵈ_, _⊕_, _/2, _/4, value,
 use Rattle.stage.specs.Ranges.{Range, stepRanges, ranges}
 use Rattle.stage.specs.Transform.{setup}
 use Rattle.stage.proofs.Triples.{get-other}
-use Rattle.stage.proofs.Reversal.{Apart, apart, unchanged, undo-run}
+use Rattle.stage.proofs.Reversal.{apart, apart-take, apart-drop, unchanged, undo-run}
 use Rattle.transform.proofs.Between.{run-append}
 use Rattle.trials.specs.Trials.{hasPlace, stepOf, changes}
 
@@ -71,16 +71,6 @@ run-unchanged σ (s ∷ l) c p e =
     run-unchanged σ l c (step σ s p) (b .1) ∙ get-other p c (s .plane) _ (false-fails (b .0))
 
 -- ---- undone
-pub apart-take : (i : ℕ) (l : List Step) → Apart l → Apart (take i l)
-apart-take zero l h = tt
-apart-take (suc i) [] h = tt
-apart-take (suc i) (s ∷ l) h = (h .0, apart-take i l (h .1))
-
-pub apart-drop : (i : ℕ) (l : List Step) → Apart l → Apart (drop i l)
-apart-drop zero l h = h
-apart-drop (suc i) [] h = tt
-apart-drop (suc i) (s ∷ l) h = apart-drop i l (h .1)
-
 -- any part of a transform's steps, run and undone with the same choices
 pub part-undone : (w h t i n : ℕ) (φ : List ℕ) (p : Planes) → let l = take n (drop i (steps t)) in undo (setup w h φ) l (run (setup w h φ) l p) ≡ p
 part-undone w h t i n φ p =

@@ -1,10 +1,10 @@
-use mathlib.Core.Path.{_≡_, sym, _∙_}
+use mathlib.Core.Path.{_≡_, _∙_}
 use mathlib.Core.Bool.{true}
 use Prim.Native.Nat.{_*_}
 use native.Mathlib.Omega.{arith}
 use lib.ListN.{take}
 use denote.Ref.{now}
-use borrow.Author.Tests.{not-true, not-false}
+use Rattle.integers.proofs.Booleans.{held, failed}
 use Rattle.stage.specs.Planes.{C1, C2, C3, Planes, triple}
 use Rattle.stage.specs.Transform.{isPicture}
 use Rattle.stage.specs.Search.{Scratch}
@@ -36,7 +36,7 @@ abbrev settled : tie.After-copy-picture-arg3 → tie.Else1
 settled c = c .before .before .before .before .before
 
 samples : (c : tie.Else2) → let s = start (c .before .before .before) in isPicture (s .args .depth) (picture s) ≡ true
-samples c = sym (c .before .is-picture .ensures) ∙ not-false (c .before .is-picture .result) (c .if2 .left)
+samples c = held (c .before .is-picture .ensures) (c .if2 .left)
 
 -- the trial planes hold the picture
 abbrev front : tie.After-copy-picture → Planes
@@ -69,7 +69,7 @@ returns-2 : tie.Need-returns-2
 returns-2 c =
     let i = c .before in
     let e = i .before in
-    estimate-no-picture (tests (e .before)) (e .if1 .left) (sym (i .is-picture .ensures) ∙ not-true (i .is-picture .result) (c .if2 .taken))
+    estimate-no-picture (tests (e .before)) (e .if1 .left) (failed (i .is-picture .ensures) (c .if2 .taken))
 
 copy-picture-requires : tie.Need-copy-picture-requires
 copy-picture-requires c κs =

@@ -1,6 +1,5 @@
 -- `search` is `searchCall`.
 use borrow.Author.Needs.{needs}
-use borrow.Author.Tests.{not-true, not-false}
 use native.Mathlib.Omega.{arith}
 use mathlib.Core.Path.{_≡_, sym, ap, _∙_, subst}
 use mathlib.Core.Bool.{true}
@@ -8,14 +7,16 @@ use Prim.Native.Nat.{ℕ, _*_, _<_}
 use lib.IntN.{pos}
 use lib.ListN.{length, take, replicate}
 use denote.Ref.{now}
+use Rattle.integers.proofs.Booleans.{held, failed}
 use Rattle.stage.specs.Planes.{Plane, C1, C2, C3, Planes, triple, get}
 use Rattle.stage.specs.Transform.{isPicture}
 use Rattle.stage.specs.Estimate.{counted}
 use Rattle.stage.specs.Search.{Lent}
+use Rattle.stage.proofs.Triples.{each-plane}
 use Rattle.estimate.proofs.Calls.{front-picture}
 use Rattle.trials.specs.Trials.{TrialPlanes}
 use Rattle.search.specs.Calls.{lent}
-use Rattle.search.proofs.Whole.{Allowed, allowed, trial-planes, size, lent-cleared, each-plane, search-refused, search-no-picture, search-done}
+use Rattle.search.proofs.Whole.{Allowed, allowed, trial-planes, size, lent-cleared, search-refused, search-no-picture, search-done}
 use Rattle.search.proofs.search.Statement.{statement}
 use Rattle.search.proofs.search.Tie as tie
 
@@ -42,8 +43,8 @@ past c =
     allowed (a .width) (a .height) (a .depth) (a .transform) (a .rounds) (picture s) (memory s) (sym (c .before .search-refusal .ensures) ∙ c .if1 .left)
 
 -- the planes hold a picture
-held : (c : tie.Else2) → let s = start (c .before .before .before) in isPicture (s .args .depth) (picture s) ≡ true
-held c = sym (c .before .is-picture .ensures) ∙ not-false (c .before .is-picture .result) (c .if2 .left)
+samples : (c : tie.Else2) → let s = start (c .before .before .before) in isPicture (s .args .depth) (picture s) ≡ true
+samples c = held (c .before .is-picture .ensures) (c .if2 .left)
 
 abbrev tested : tie.After-copy-picture → tie.Else2
 tested c = c .before .before .before .before
@@ -99,7 +100,7 @@ returns-2 c =
     let s = start r in
     let a = s .args in
     search-no-picture (a .width) (a .height) (a .depth) (a .transform) (a .rounds) (picture s) (memory s) (r .search-refusal .result) (r .search-refusal .ensures)
-    (i .before .if1 .left) (sym (i .is-picture .ensures) ∙ not-true (i .is-picture .result) (c .if2 .taken))
+    (i .before .if1 .left) (failed (i .is-picture .ensures) (c .if2 .taken))
 
 copy-picture-requires : tie.Need-copy-picture-requires
 copy-picture-requires c κs =
@@ -120,7 +121,7 @@ search-scratch-requires c κs =
     let n = a .width * a .height in
     let k = past (passed x) in (
       subst (TrialPlanes (a .width) (a .height) (a .transform) (w .widest .result) 0) (sym (fronts x))
-          (trial-planes (a .width) (a .height) (a .depth) (a .transform) (a .rounds) (picture s) (memory s) (w .widest .result) k (w .widest .ensures) (held (tested x))),
+          (trial-planes (a .width) (a .height) (a .depth) (a .transform) (a .rounds) (picture s) (memory s) (w .widest .result) k (w .widest .ensures) (samples (tested x))),
       (
         (subst (λ (d : ℕ). 2 * d < length (now (a .counters))) (sym (w .widest .ensures)) (k .room .enough), k .choices),
         (omega (arith, k .room, as-long x C1), omega (arith, k .room, as-long x C2), omega (arith, k .room, as-long x C3)),
@@ -160,7 +161,7 @@ returns-3 c =
     let e = y .search-scratch .ensures in
     let z = triple (m .0) (m .1 .0) (m .1 .1 .0) in
     search-done (a .width) (a .height) (a .depth) (a .transform) (a .rounds) (picture s) (memory s) (r .search-refusal .result) (r .search-refusal .ensures)
-    (passed x .if1 .left) (held (tested x)) (triple (take n (copied x .c1)) (take n (copied x .c2)) (take n (copied x .c3))) (fronts x) (y .search-scratch .result)
+    (passed x .if1 .left) (samples (tested x)) (triple (take n (copied x .c1)) (take n (copied x .c2)) (take n (copied x .c3))) (fronts x) (y .search-scratch .result)
     (c .counted .result) (m .1 .1 .1 .1 .0) z (m .1 .1 .1 .0) (e .0) (e .1 .0) (c .counted .ensures ∙ ap counted (sizes x C1))
     (lent-cleared (trials s) (copied x) z (as-long x)
     (each-plane (λ (i : Plane). get z i ≡ replicate (length (get (copied x) i)) (pos 0)) (e .1 .1 .0 .0) (e .1 .1 .0 .1) (e .1 .1 .0 .2)))

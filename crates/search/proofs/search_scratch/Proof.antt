@@ -4,14 +4,15 @@ use native.Mathlib.Omega.{arith}
 use mathlib.Core.Path.{sym, _∙_}
 use Prim.Native.Nat.{_*_}
 use lib.IntN.{pos}
-use lib.ListN.{length, take}
+use lib.ListN.{take}
 use lib.Seq.{length-take-le}
 use denote.Ref.{now}
 use Rattle.stage.specs.Planes.{triple}
 use Rattle.stage.specs.Steps.{steps, places}
 use Rattle.stage.specs.Search.{choicesEstimate}
 use Rattle.estimate.proofs.Zero.{zero-of, zero-same}
-use Rattle.search.proofs.Whole.{zero-choices, searched-is, whole-cleared}
+use Rattle.estimate.proofs.Copies.{cleared-front}
+use Rattle.search.proofs.Whole.{zero-choices, searched-is}
 use Rattle.search.proofs.search_scratch.Statement.{statement}
 use Rattle.search.proofs.search_scratch.Tie as tie
 
@@ -104,9 +105,9 @@ returns c =
         searched-is e (places (steps (a .transform))) (a .count) (now (a .choices)) _ _ (s .pre .1 .0 .1) (f .clear-choices .ensures) (x .ensures .1 .0),
         (
           (
-            whole-cleared (pos 0) n (now (a .t1)) (x .last .0) _ (c .before .before .before .before .before .before .before .clear-plane .ensures) (x .kept .0),
-            whole-cleared (pos 0) n (now (a .t2)) (x .last .1 .0) _ (c .before .before .before .before .clear-plane2 .ensures) (x .kept .1 .0),
-            whole-cleared (pos 0) n (now (a .t3)) (x .last .1 .1 .0) _ (c .before .clear-plane3 .ensures) (x .kept .1 .1 .0),
+            cleared-front (pos 0) n (now (a .t1)) (x .last .0) (c .before .before .before .before .before .before .before .clear-plane .ensures) (x .kept .0),
+            cleared-front (pos 0) n (now (a .t2)) (x .last .1 .0) (c .before .before .before .before .clear-plane2 .ensures) (x .kept .1 .0),
+            cleared-front (pos 0) n (now (a .t3)) (x .last .1 .1 .0) (c .before .clear-plane3 .ensures) (x .kept .1 .1 .0),
           ),
           zero-same _ (now (a .counters)) (x .ensures .1 .1 .zero) (x .kept .1 .1 .1 .0 ∙ k .kept .0),
         ),

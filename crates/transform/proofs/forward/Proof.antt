@@ -1,9 +1,9 @@
 use borrow.Author.Needs.{needs}
-use borrow.Author.Tests.{not-true, not-false}
-use mathlib.Core.Path.{_≡_, sym, _∙_}
+use mathlib.Core.Path.{_≡_}
 use mathlib.Core.Bool.{true}
 use native.Mathlib.Omega.{arith}
 use denote.Ref.{now}
+use Rattle.integers.proofs.Booleans.{held, failed}
 use Rattle.stage.specs.Planes.{Planes, triple}
 use Rattle.stage.specs.Transform.{isPicture}
 use Rattle.transform.proofs.Calls.{Passed, passed, forward-refused, forward-no-picture, forward-done, forward-ready}
@@ -24,7 +24,7 @@ past c =
 
 -- the planes hold a picture
 picture : (c : tie.Else2) → let a = c .before .before .before .before .before .before .before .before .before in isPicture (a .args .depth) (planes a) ≡ true
-picture c = sym (c .before .is-picture .ensures) ∙ not-false (c .before .is-picture .result) (c .if2 .left)
+picture c = held (c .before .is-picture .ensures) (c .if2 .left)
 
 choices-fit-requires : tie.Need-choices-fit-requires
 choices-fit-requires c κs = search needs
@@ -58,7 +58,7 @@ returns-2 c =
     let e = i .before .before .before .before in
     let a = e .before .before .before .before in
     let s = a .args in
-    forward-no-picture (s .width) (s .height) (s .depth) (s .transform) (now (s .choices)) (planes a) (past e) (sym (i .is-picture .ensures) ∙ not-true (i .is-picture .result) (c .if2 .taken))
+    forward-no-picture (s .width) (s .height) (s .depth) (s .transform) (now (s .choices)) (planes a) (past e) (failed (i .is-picture .ensures) (c .if2 .taken))
 
 step-count-requires : tie.Need-step-count-requires
 step-count-requires c κs = past (c .before .before .before .before .before) .allowed .transform

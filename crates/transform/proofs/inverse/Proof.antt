@@ -1,9 +1,9 @@
 use borrow.Author.Needs.{needs}
-use borrow.Author.Tests.{not-true, not-false}
 use mathlib.Core.Path.{_≡_, sym, _∙_}
 use mathlib.Core.Bool.{true}
 use native.Mathlib.Omega.{arith}
 use denote.Ref.{now}
+use Rattle.integers.proofs.Booleans.{held, failed}
 use Rattle.stage.specs.Planes.{Planes, triple}
 use Rattle.stage.specs.Ranges.{finishedRanges, withinRanges}
 use Rattle.transform.proofs.Calls.{Passed, passed, inverse-refused, inverse-outside, inverse-ready, inverse-done, inverse-no-picture, again-ready}
@@ -24,7 +24,7 @@ past c =
 
 -- the planes lie in their ranges
 inside : (c : tie.Else2) → let a = c .before .before .before .before .before .before .before .before .before in withinRanges (finishedRanges (a .args .transform) (a .args .depth)) (planes a) ≡ true
-inside c = sym (c .before .in-finished-ranges .ensures) ∙ not-false (c .before .in-finished-ranges .result) (c .if2 .left)
+inside c = held (c .before .in-finished-ranges .ensures) (c .if2 .left)
 
 choices-fit-requires : tie.Need-choices-fit-requires
 choices-fit-requires c κs = search needs
@@ -58,7 +58,7 @@ returns-2 c =
     let e = i .before .before .before .before in
     let a = e .before .before .before .before in
     let s = a .args in
-    inverse-outside (s .width) (s .height) (s .depth) (s .transform) (now (s .choices)) (planes a) (past e) (sym (i .in-finished-ranges .ensures) ∙ not-true (i .in-finished-ranges .result) (c .if2 .taken))
+    inverse-outside (s .width) (s .height) (s .depth) (s .transform) (now (s .choices)) (planes a) (past e) (failed (i .in-finished-ranges .ensures) (c .if2 .taken))
 
 step-count-requires : tie.Need-step-count-requires
 step-count-requires c κs = past (c .before .before .before .before .before) .allowed .transform

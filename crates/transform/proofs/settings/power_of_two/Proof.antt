@@ -1,7 +1,8 @@
 use borrow.Author.Needs.{needs}
 use mathlib.Core.Path.{refl}
+use native.Mathlib.Omega.{arith}
 use lib.Pow.{pow-pos, pow-mono}
-use Rattle.transform.proofs.FinishedRanges.{shifted}
+use Rattle.integers.proofs.Tests.{shifted}
 use Rattle.transform.proofs.settings.power_of_two.Statement.{statement}
 use Rattle.transform.proofs.settings.power_of_two.Tie as tie
 
@@ -11,7 +12,7 @@ shl-result c = search needs
 returns : tie.Need-returns
 returns c =
     let n = c .args .exponent in
-    rw (shifted n (c .pre)) (record { is = refl; least = pow-pos n; most = pow-mono {i = n} {j = 16} (c .pre) })
+    rw (shifted n (omega (arith, c .pre))) (record { is = refl; least = pow-pos n; most = pow-mono {i = n} {j = 16} (c .pre) })
 
 pub power-of-two-spec : {M : Type 1} → statement M
 power-of-two-spec = tie.close (tie.spec shl-result returns)

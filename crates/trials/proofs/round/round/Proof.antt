@@ -8,8 +8,9 @@ use denote.Ref.{now}
 use Rattle.stage.specs.Planes.{Planes, triple}
 use Rattle.stage.specs.Steps.{steps, places}
 use Rattle.stage.specs.Search.{round, choicesEstimate}
+use Rattle.transform.proofs.Passes.{choices-fitting}
 use Rattle.trials.specs.Trials.{TrialPlanes, Counters}
-use Rattle.trials.proofs.Ready.{ready-forward, ready-back, between-planes, between-undone, choices-count}
+use Rattle.trials.proofs.Ready.{ready-forward, ready-back, between-planes, between-undone}
 use Rattle.trials.proofs.Rounds.{before, before-next, rest-estimate, step-inside, AtPlace, first-place, next-place}
 use Rattle.trials.proofs.round.round.Statement.{statement}
 use Rattle.trials.proofs.round.round.Tie as tie
@@ -57,7 +58,7 @@ standing l =
 known-place : (c : tie.In-loop Inv-loop μ-loop) → c .before .loop .place < places (steps (start (c .before) .args .transform))
 known-place c =
     let s = start (c .before) in
-    omega (arith, c .loop-test .taken, c .before .loop .inv .1, choices-count (s .args .transform) (now (s .args .choices)) (s .pre .1 .0))
+    omega (arith, c .loop-test .taken, c .before .loop .inv .1, choices-fitting (s .args .transform) (now (s .args .choices)) (s .pre .1 .0) .long)
 
 -- the step is not before the last place's
 ordered : (c : tie.After-step-of Inv-loop μ-loop) → entered c .loop .from ≤ c .step-of .result
@@ -107,7 +108,7 @@ choose-requires c κs =
     let v = l .loop .inv .2 in (
       between-planes (n .step-of .result) (l .loop .choices) (moved r) (standing l) (ordered n) (r .run-steps .ensures),
       (
-        (inside n, v .fit, omega (arith, known-place (n .before), choices-count (a .transform) (l .loop .choices) (v .fit))),
+        (inside n, v .fit, omega (arith, known-place (n .before), choices-fitting (a .transform) (l .loop .choices) (v .fit) .long)),
         (
           (l .loop .inv .3, s .pre .1 .1 .0 .1),
           v .estimate ∙ sym (rest-estimate (a .width) (a .height) (a .transform) (picture l) (l .loop .choices) (n .step-of .result) (moved r) (moved-planes r)),
@@ -181,7 +182,7 @@ same-length-5 c =
     let l = finished c in
     let s = start l in
     let t = s .args .transform in
-    choices-count t (l .loop .choices) (l .loop .inv .2 .fit) ∙ sym (choices-count t (now (s .args .choices)) (s .pre .1 .0))
+    choices-fitting t (l .loop .choices) (l .loop .inv .2 .fit) .long ∙ sym (choices-fitting t (now (s .args .choices)) (s .pre .1 .0) .long)
 
 returns : tie.Need-returns Inv-loop μ-loop
 returns c =
@@ -190,7 +191,7 @@ returns c =
     let a = s .args in
     let v = l .loop .inv .2 in
     let n : l .loop .place ≡ places (steps (a .transform)) =
-    omega (arith, l .loop .inv .0, l .loop .inv .1, c .before .before .before .before .before .before .before .before .loop-test .left, choices-count (a .transform) (now (a .choices)) (s .pre .1 .0)) in (
+    omega (arith, l .loop .inv .0, l .loop .inv .1, c .before .before .before .before .before .before .before .before .loop-test .left, choices-fitting (a .transform) (now (a .choices)) (s .pre .1 .0) .long) in (
       v .estimate,
       (
         v .choices ∙ ap (λ (k : ℕ). round (choicesEstimate (a .width) (a .height) (a .transform) (picture l)) k (now (a .choices))) n,

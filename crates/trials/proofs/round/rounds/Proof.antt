@@ -8,8 +8,8 @@ use denote.Ref.{now}
 use Rattle.stage.specs.Planes.{Planes, triple}
 use Rattle.stage.specs.Steps.{steps, places}
 use Rattle.stage.specs.Search.{rounds, choicesEstimate}
+use Rattle.transform.proofs.Passes.{choices-fitting}
 use Rattle.trials.specs.Trials.{TrialPlanes, Counters}
-use Rattle.trials.proofs.Ready.{choices-count}
 use Rattle.trials.proofs.Rounds.{AfterRounds, first-round, next-round}
 use Rattle.trials.proofs.round.rounds.Statement.{statement}
 use Rattle.trials.proofs.round.rounds.Tie as tie
@@ -97,7 +97,7 @@ same-length-5 c =
     let l = c .before in
     let s = start l in
     let t = s .args .transform in
-    choices-count t (l .loop .choices) (l .loop .inv .1 .fit) ∙ sym (choices-count t (now (s .args .choices)) (s .pre .1 .0))
+    choices-fitting t (l .loop .choices) (l .loop .inv .1 .fit) .long ∙ sym (choices-fitting t (now (s .args .choices)) (s .pre .1 .0) .long)
 
 returns : tie.Need-returns Inv-loop μ-loop
 returns c =
