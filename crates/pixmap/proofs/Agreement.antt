@@ -1,23 +1,35 @@
--- The files that the reader accepts are the pixmaps of the grammar, and its raster is empty exactly where it refuses.
+-- The files that the reader accepts are the pixmaps of the grammar, and its raster is empty exactly where it refuses. An accepted
+-- file has three bytes for each pixel, and the planes filled from it are those of its raster.
 use mathlib.Core.Path.{_≡_, refl, sym, ap, subst, _∙_}
-use mathlib.Core.Bool.{Bool, true, false, not}
+use mathlib.Core.Bool.{Bool, true, false, cond, not}
 use mathlib.Core.List.{List, []}
 use Prim.Native.Nat.{ℕ, _*_, _≤_}
 use native.Mathlib.Nat.{mul-le-mul}
 use native.Mathlib.Omega.{arith}
 use lib.Dec.{eqb}
-use lib.ListN.{length}
-use borrow.Author.Tests.{not-true, le-leb, eqb-true, eqb-false, eq-eqb, ne-eqb}
+use lib.IntN.{ℤ}
+use lib.ListN.{length, length-append}
+use borrow.Author.Tests.{not-true, eqb-true, eqb-false, eq-eqb, ne-eqb}
+use Rattle.integers.proofs.Booleans.{holds-true}
 use Rattle.stage.specs.Answers.{Reply, done, refused, refusal, answer, number, sized}
-use Rattle.stage.specs.Pixmap.{HeaderText, headerText, depthOf, pixmapTests, Header, textHeader, headerOf, rasterBy, rasterOf}
-use Rattle.stage.specs.Grammar.{IsHeader, IsPixmap}
+use Rattle.stage.specs.Planes.{Planes, triple}
+use Rattle.stage.specs.Transform.{lengths, allEqual}
+use Rattle.stage.specs.Pixmap.{HeaderText, headerText, depthOf, pixmapTests, Header, textHeader, headerOf, rasterBy, rasterOf, rasterPlanes, planesOf}
+use Rattle.stage.specs.Grammar.{IsField, IsHeader, IsPixmap}
+use Rattle.stage.proofs.Answers.{sized-iff}
+use Rattle.pixmap.specs.declared.answers.Filled.{Filled}
+use Rattle.pixmap.specs.Replies.{filledOutcome}
 use Rattle.pixmap.specs.Agreement.{FilesAgree}
 use Rattle.pixmap.proofs.Depths.{depth-means, means-depth}
-use Rattle.pixmap.proofs.Refusals.{four, Passed, passed, first-0, reply-number, same-number, same-value, sized-range}
+use Rattle.pixmap.proofs.Refusals.{four, text-passed, first-0, reply-number, same-number, same-value, sized-range}
+use Rattle.pixmap.proofs.Filling.{planes-decide}
 use Rattle.pixmap.proofs.Headers.{headers-agree}
 
 range-sized : (w h : ℕ) → (1 ≤ w) × (w ≤ 8192) → (1 ≤ h) × (h ≤ 8192) → sized w h ≡ true
-range-sized w h a b = rw (le-leb 1 w (a .0), le-leb w 8192 (a .1), le-leb 1 h (b .0), le-leb h 8192 (b .1))
+range-sized w h a b = holds-true (sized w h) (sized-iff w h .1 (a, b))
+
+field-shorter : {l rest : List ℕ} {v : ℕ} → IsField l v rest → length rest ≤ length l
+field-shorter f = omega (arith, simp length-append at (ap length (f .parts)))
 
 abbrev textReply : HeaderText → Reply Header
 textReply t = answer (pixmapTests t) (textHeader t)
@@ -27,11 +39,9 @@ module _ (file : List ℕ) (v : Header) (e : headerOf file ≡ done v) where
   abbrev T : HeaderText
   T = headerText 54 file
 
-  facts : Passed (T .formed) (sized (T .width) (T .height)) (not (eqb (depthOf (T .maxval)) 0)) (eqb (length (T .rest)) (3 * T .width * T .height))
+  tests-pass : refusal (pixmapTests T) ≡ 0
   unfolding headerOf
-  facts =
-      passed (T .formed) (sized (T .width) (T .height)) (not (eqb (depthOf (T .maxval)) 0)) (eqb (length (T .rest)) (3 * T .width * T .height))
-      (same-number (refusal (pixmapTests T)) 0 (textHeader T) v e)
+  tests-pass = same-number (refusal (pixmapTests T)) 0 (textHeader T) v e
 
   same-header : textHeader T ≡ v
   unfolding headerOf
@@ -43,7 +53,7 @@ module _ (file : List ℕ) (v : Header) (e : headerOf file ≡ done v) where
 
   of-text : IsPixmap file (T .width) (T .height) (depthOf (T .maxval)) (T .rest)
   of-text =
-      let f = facts in
+      let f = text-passed T tests-pass in
       let s = sized-range (T .width) (T .height) (f .size) in
       let k = depth-means (T .maxval) (depthOf (T .maxval)) refl (eqb-false (depthOf (T .maxval)) 0 (not-true (eqb (depthOf (T .maxval)) 0) (f .known))) in
       record {
@@ -65,6 +75,19 @@ module _ (file : List ℕ) (v : Header) (e : headerOf file ≡ done v) where
   some-raster z =
       let p = accepted in
       omega (arith, p .is-length, ap length z, mul-le-mul (p .width-range .0) (p .height-range .0))
+
+  -- a pixel takes three bytes of the file
+  pub pixels-most : 3 * (v .width * v .height) ≤ length file
+  pixels-most =
+      let p = accepted in
+      let i = p .is-header in
+      omega (arith, p .is-length, ap length (i .letters), field-shorter (i .is-width), field-shorter (i .is-height), field-shorter (i .is-maxval))
+
+  -- planes of the picture's size hold the raster once they are filled
+  pub filled-planes : (lent : Planes) (r : Filled) (p1 p2 p3 : List ℤ) → allEqual (v .width * v .height) (lengths lent) ≡ true → filledOutcome r p1 p2 p3 ≡ planesOf file lent → triple p1 p2 p3 ≡ rasterPlanes (rasterOf file)
+  unfolding planesOf
+  filled-planes lent r p1 p2 p3 l q =
+      ap (λ o. o .memory) q ∙ ap (λ n. cond (eqb n 0) (rasterPlanes (rasterOf file)) lent) (planes-decide T v lent tests-pass same-header true l)
 
 -- ---- every pixmap is accepted
 module _ (file : List ℕ) (w h d : ℕ) (r : List ℕ) (p : IsPixmap file w h d r) where

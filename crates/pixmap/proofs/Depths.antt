@@ -1,18 +1,15 @@
 -- The depth of a maxval: the one search of the definition, as a loop sees it and as the equation that it solves.
 use mathlib.Core.Path.{_≡_, refl, sym, ap, _∙_}
 use mathlib.Core.Bool.{Bool, true, false, cond}
-use Prim.Native.Nat.{ℕ, zero, suc, _+_, _-_, _*_, _%_, _^_, _≤_, _<_, min}
+use Prim.Native.Nat.{ℕ, zero, suc, _+_, _-_, _^_, _≤_, _<_, min}
 use mathlib.Core.Logic.{⊎-elim}
-use native.Mathlib.Nat.{mod-eq-of-lt, lt-of-le-of-lt, eq-or-lt-of-le}
+use native.Mathlib.Nat.{eq-or-lt-of-le}
 use native.Mathlib.Numerals.{add-one}
 use native.Mathlib.Omega.{arith}
-use lib.Dec.{leb, eqb, lit<}
+use lib.Dec.{leb, eqb}
 use lib.Pow.{pow-pos, pow-mono, pow-lt}
 use borrow.Author.Tests.{leb-true, leb-false, eqb-true, eqb-false, eq-eqb, ne-eqb}
 use Rattle.stage.specs.Pixmap.{depthAmong, depthOf}
-
-pub shifted : (b : ℕ) → b ≤ 8 → (1 * 2 ^ b) % 4294967296 ≡ 2 ^ b
-shifted b h = let e : 1 * 2 ^ b ≡ 2 ^ b = omega arith in rw e (mod-eq-of-lt (lt-of-le-of-lt (pow-mono h) (lit< tt)))
 
 -- ---- the loop that tries the depths from b to 8
 module _ (b m : ℕ) (h : b ≤ 8) where

@@ -6,10 +6,10 @@ use Prim.Native.Nat.{ℕ}
 use lib.Dec.{eqb}
 use lib.ListN.{drop}
 use borrow.Author.Tests.{eqb-true, eq-eqb}
+use Rattle.integers.proofs.Booleans.{both-true}
 use Rattle.stage.specs.Pixmap.{isWhite, isDigit, first, afterStretch, decimal, afterDigits, field, headerText}
 use Rattle.stage.specs.Grammar.{IsField, IsHeader}
 use Rattle.pixmap.specs.Agreement.{HeadersAgree}
-use Rattle.pixmap.proofs.Booleans.{and-left, and-right}
 use Rattle.pixmap.proofs.Stretches.{white-no-digit, nothing-white, white-step, stretch-read, stretch-of}
 use Rattle.pixmap.proofs.Numbers.{number-front, number-behind, number-value, number-of}
 
@@ -33,10 +33,10 @@ module _ (b : ℕ) (l : List ℕ) (w : isWhite b ≡ true) (d : isDigit (first (
 
 field-sound : (l : List ℕ) → field l .formed ≡ true → IsField l (field l .value) (field l .rest)
 unfolding field
-field-sound [] h = absurd (nothing-white (and-left (isWhite 0) (isDigit (first (afterStretch false []))) h))
+field-sound [] h = absurd (nothing-white (both-true (isWhite 0) (isDigit (first (afterStretch false []))) h .0))
 field-sound (b ∷ l) h =
-    let d = isDigit (first (afterStretch false (b ∷ l))) in
-    field-of b l (and-left (isWhite b) d h) (and-right (isWhite b) d h)
+    let k = both-true (isWhite b) (isDigit (first (afterStretch false (b ∷ l)))) h in
+    field-of b l (k .0) (k .1)
 
 field-complete : (l rest : List ℕ) (v : ℕ) → IsField l v rest → isDigit (first rest) ≡ false → field l ≡ record { formed = true; value = v; rest = rest }
 unfolding field
@@ -75,7 +75,7 @@ conditions false q w h m s e = absurd (true≢false (sym e))
 
 field-white : (l : List ℕ) → field l .formed ≡ true → isWhite (first l) ≡ true
 unfolding field
-field-white l h = and-left (isWhite (first l)) (isDigit (first (afterStretch false l))) h
+field-white l h = both-true (isWhite (first l)) (isDigit (first (afterStretch false l))) h .0
 
 letters-of : (letter : ℕ) (file : List ℕ) → eqb (first file) 80 ≡ true → eqb (first (drop 1 file)) letter ≡ true → isWhite (first (drop 2 file)) ≡ true → file ≡ 80 ∷ letter ∷ drop 2 file
 letters-of letter [] p q w = absurd (nothing-white w)

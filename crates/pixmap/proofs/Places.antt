@@ -9,14 +9,14 @@ use lib.Dec.{leb, eqb}
 use lib.ListN.{length, take, drop, getD, length-drop, drop-of-length-le}
 use lib.Seq.{take-all, drop-length, drop-cons, getD-drop, drop-drop}
 use borrow.Author.Tests.{leb-true}
+use Rattle.integers.proofs.Booleans.{both-true}
 use Rattle.stage.specs.Pixmap.{isWhite, isDigit, first, endsStretch, staysInside, afterStretch, decimal, afterDigits, field, headerText}
 use Rattle.pixmap.specs.declared.text.Field.{Field}
 use Rattle.pixmap.specs.Places.{FieldAt, TextAt}
-use Rattle.pixmap.proofs.Booleans.{and-left}
 
 pub digit-low : (b : ℕ) → isDigit b ≡ true → 48 ≤ b
 unfolding isDigit
-digit-low b h = leb-true 48 b (and-left (leb 48 b) (leb b 57) h)
+digit-low b h = leb-true 48 b (both-true (leb 48 b) (leb b 57) h .0)
 
 -- ---- the byte at a place, and the part of a file from a place on
 at-place : (l : List ℕ) (i : ℕ) → i < length l → drop i l ≡ getD l i 0 ∷ drop (i + 1) l

@@ -1,16 +1,18 @@
 -- The header's tests in order, and that numbers kept to 100,000 get the same answer.
 use mathlib.Core.Path.{_≡_, refl, sym, ap, _∙_}
-use mathlib.Core.Bool.{Bool, true, false, cond}
-use mathlib.Core.List.{List, [], _∷_, _++_}
+use mathlib.Core.Bool.{Bool, true, false, cond, not}
+use mathlib.Core.List.{List, [], _∷_}
 use Prim.Native.Nat.{ℕ, _*_, _≤_, _<_, min}
 use native.Mathlib.Nat.{mul-le-mul}
 use native.Mathlib.Omega.{arith}
 use lib.Dec.{leb, eqb}
+use lib.ListN.{length}
 use borrow.Author.Tests.{leb-true, leb-false, lt-leb, eqb-true}
+use Rattle.integers.proofs.Booleans.{true-holds, and-false}
 use Rattle.stage.specs.Answers.{Reply, done, refused, Test, _else_, refusal, answer, number, between, sized}
-use Rattle.stage.specs.Pixmap.{Header, headerTests}
+use Rattle.stage.specs.Pixmap.{HeaderText, depthOf, headerTests, pixmapTests, Header}
+use Rattle.stage.proofs.Answers.{sized-iff}
 use Rattle.pixmap.specs.Scans.{replyBy}
-use Rattle.pixmap.proofs.Booleans.{and-left, and-right, and-false}
 
 -- ---- the four tests
 abbrev pub four : Bool → Bool → Bool → Bool → List Test
@@ -39,20 +41,15 @@ pub record Passed (g s k l : Bool) : Type 0 where
   pub known : k ≡ true
   pub long : l ≡ true
 
-pub passed : (g s k l : Bool) → refusal (four g s k l) ≡ 0 → Passed g s k l
+passed : (g s k l : Bool) → refusal (four g s k l) ≡ 0 → Passed g s k l
 passed true true true true h = record { formed = refl; size = refl; known = refl; long = refl }
 passed true true true false h = absurd (omega arith)
 passed true true false l h = absurd (omega arith)
 passed true false k l h = absurd (omega arith)
 passed false s k l h = absurd (omega arith)
 
--- a test behind them is made where none of them fails
-pub then-made : (g s k l t : Bool) (n : ℕ) → refusal (four g s k l ++ ((t else n) ∷ [])) ≡ cond (eqb (refusal (four g s k l)) 0) (cond t 0 n) (refusal (four g s k l))
-then-made true true true true t n = refl
-then-made true true true false t n = refl
-then-made true true false l t n = refl
-then-made true false k l t n = refl
-then-made false s k l t n = refl
+pub text-passed : (t : HeaderText) → refusal (pixmapTests t) ≡ 0 → Passed (t .formed) (sized (t .width) (t .height)) (not (eqb (depthOf (t .maxval)) 0)) (eqb (length (t .rest)) (3 * t .width * t .height))
+text-passed t = passed (t .formed) (sized (t .width) (t .height)) (not (eqb (depthOf (t .maxval)) 0)) (eqb (length (t .rest)) (3 * t .width * t .height))
 
 -- ---- an answer is the first refusal, or the value
 number-by : {A : Type 0} (n : ℕ) (v : A) (t : Bool) → eqb n 0 ≡ t → number {A = A} (cond t (done v) (refused n)) ≡ n
@@ -74,10 +71,7 @@ same-value n v w h = value-by n v w (eqb n 0) h
 
 -- ---- width and height
 pub sized-range : (w h : ℕ) → sized w h ≡ true → ((1 ≤ w) × (w ≤ 8192)) × ((1 ≤ h) × (h ≤ 8192))
-sized-range w h e =
-    let a = and-left (between 1 8192 w) (between 1 8192 h) e in
-    let b = and-right (between 1 8192 w) (between 1 8192 h) e in
-    ((leb-true 1 w (and-left (leb 1 w) (leb w 8192) a), leb-true w 8192 (and-right (leb 1 w) (leb w 8192) a)), (leb-true 1 h (and-left (leb 1 h) (leb h 8192) b), leb-true h 8192 (and-right (leb 1 h) (leb h 8192) b)))
+sized-range w h e = sized-iff w h .0 (true-holds e)
 
 pub area : (w h : ℕ) → sized w h ≡ true → w * h ≤ 67108864
 area w h e = let r = sized-range w h e in omega (arith, mul-le-mul (r .0 .1) (r .1 .1))

@@ -6,9 +6,9 @@ use Prim.Native.Nat.{ℕ, _≤_, _<_}
 use native.Mathlib.Omega.{arith}
 use lib.Dec.{leb, eqb}
 use borrow.Author.Tests.{leb-true, leb-false, eqb-true, ne-eqb, lt-leb}
+use Rattle.integers.proofs.Booleans.{and-false}
 use Rattle.stage.specs.Pixmap.{isWhite, isDigit, endsComment, first, endsStretch, staysInside, afterStretch}
 use Rattle.stage.specs.Grammar.{CommentText, end, byte, Stretch, none, white, comment}
-use Rattle.pixmap.proofs.Booleans.{and-false}
 use Rattle.pixmap.proofs.Places.{digit-low, no-digit, stretch-ends, stretch-goes, stretch-nil}
 
 -- ---- bytes

@@ -6,8 +6,8 @@ use Prim.Native.Nat.{_*_, _≤_}
 use native.Mathlib.Omega.{arith}
 use lib.Dec.{eqb}
 use borrow.Author.Tests.{not-true, not-false, eq-eqb, ne-eqb}
+use Rattle.integers.proofs.Booleans.{held, failed}
 use Rattle.stage.specs.Answers.{sized}
-use Rattle.pixmap.proofs.Booleans.{held, failed}
 use Rattle.pixmap.proofs.Refusals.{first-1, first-2, first-3, first-4, first-0, sized-range, row-bytes, all-bytes}
 use Rattle.pixmap.proofs.first_refusal.Statement.{statement}
 use Rattle.pixmap.proofs.first_refusal.Tie as tie

@@ -5,13 +5,13 @@ use mathlib.Core.Bool.{true}
 use mathlib.Core.List.{List}
 use Prim.Native.Nat.{ℕ, _*_}
 use native.Mathlib.Omega.{arith}
-use lib.IntN.{ℤ}
 use lib.ListN.{length}
 use denote.Ref.{now}
-use Rattle.stage.specs.Planes.{Triple}
+use Rattle.integers.proofs.Booleans.{true-holds, held, failed}
+use Rattle.stage.specs.Planes.{C1, C2, C3, Planes}
 use Rattle.stage.specs.Transform.{lengths, allEqual}
-use Rattle.pixmap.proofs.Booleans.{held, failed}
-use Rattle.pixmap.proofs.Filling.{each-length, planes-refused, small-area, raster-long, planes-other, planes-done}
+use Rattle.stage.proofs.Demand3.{allEqual-iff}
+use Rattle.pixmap.proofs.Filling.{planes-refused, small-area, raster-long, planes-other, planes-done}
 use Rattle.pixmap.proofs.planes.Statement.{statement}
 use Rattle.pixmap.proofs.planes.Tie as tie
 
@@ -19,7 +19,7 @@ abbrev file : tie.After-read-file → List ℕ
 file r = r .before .before .args .file .now
 
 -- the planes as they were lent
-abbrev lent : tie.After-read-file → Triple (List ℤ)
+abbrev lent : tie.After-read-file → Planes
 lent r = record { c1 = now (r .before .before .args .c1); c2 = now (r .before .before .args .c2); c3 = now (r .before .before .args .c3) }
 
 abbrev scan : tie.After-part-behind → tie.After-read-file
@@ -38,8 +38,8 @@ each-long : (p : tie.After-part-behind) → let n = length (now (p .part-behind 
 each-long p =
     let r = scan p in
     let n = ap length (p .part-behind .ensures .0) ∙ raster-long (file r) (r .read-file .result) (r .read-file .ensures) (lent r) (passed p) in
-    let k = each-length (area r) (lent r) (long p) in
-    (omega arith, (omega arith, omega arith))
+    let k = allEqual-iff (area r) (lent r) .0 (true-holds (long p)) in
+    (omega (arith, k C1), (omega (arith, k C2), omega (arith, k C3)))
 
 read-file-requires : tie.Need-read-file-requires
 read-file-requires c κs = search needs

@@ -4,7 +4,7 @@ use mathlib.Core.Path.{refl, sym, ap, _∙_}
 use Prim.Native.Nat.{_-_}
 use native.Mathlib.Omega.{arith}
 use lib.ListN.{length}
-use borrow.Author.Tests.{not-true, not-false}
+use Rattle.integers.proofs.Booleans.{held, failed}
 use Rattle.stage.specs.Pixmap.{isDigit}
 use Rattle.pixmap.proofs.Places.{Read, digit-here, first-at, none-past, value-read, rest-read}
 use Rattle.pixmap.proofs.text.read_number.Statement.{statement}
@@ -29,14 +29,14 @@ returns : tie.Need-returns Inv-loop μ-loop
 returns c =
     let l = c .before .before .before .before in
     let s = l .before .before .args in
-    let t = ap isDigit (sym (first-at (s .file .now) (l .loop .i))) ∙ sym (c .before .is-digit .ensures) ∙ not-true _ (c .if1 .taken) in
+    let t = ap isDigit (sym (first-at (s .file .now) (l .loop .i))) ∙ failed (c .before .is-digit .ensures) (c .if1 .taken) in
     record {
       value-is = value-read (s .file .now) (s .at) (l .loop .n) (l .loop .i) (l .loop .inv) t;
       rest-is = rest-read (s .file .now) (s .at) (l .loop .n) (l .loop .i) (l .loop .inv) t;
     }
 
 with-digit-requires : tie.Need-with-digit-requires Inv-loop μ-loop
-with-digit-requires c κs = (c .before .before .before .before .loop .inv .small, sym (c .before .is-digit .ensures) ∙ not-false _ (c .if1 .left))
+with-digit-requires c κs = (c .before .before .before .before .loop .inv .small, held (c .before .is-digit .ensures) (c .if1 .left))
 
 add-i : tie.Need-add-i Inv-loop μ-loop
 add-i c = search needs
@@ -48,7 +48,7 @@ loop-again : tie.Need-loop-again Inv-loop μ-loop
 loop-again c =
     let l = c .before .before .before .before .before in
     let s = l .before .before .args in
-    let t = sym (c .before .before .is-digit .ensures) ∙ not-false _ (c .before .if1 .left) in
+    let t = held (c .before .before .is-digit .ensures) (c .before .if1 .left) in
     rw (c .with-digit .ensures) (digit-here (s .file .now) (s .at) (l .loop .n) (l .loop .i) (l .loop .inv) (c .before .before .before .before .loop-test .taken) t)
 
 returns-2 : tie.Need-returns-2 Inv-loop μ-loop

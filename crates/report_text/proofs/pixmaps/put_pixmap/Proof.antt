@@ -3,7 +3,8 @@ use borrow.Author.Needs.{needs}
 use Prim.Native.Nat.{_*_, _≤_}
 use native.Mathlib.Omega.{arith}
 use denote.Ref.{now}
-use Rattle.report_text.proofs.Pictures.{few-pixels, prefix-length, all-equal}
+use Rattle.pixmap.proofs.Agreement.{pixels-most}
+use Rattle.report_text.proofs.Pictures.{prefix-length, all-equal}
 use Rattle.report_text.proofs.pixmaps.put_pixmap.Statement.{statement}
 use Rattle.report_text.proofs.pixmaps.put_pixmap.Tie as tie
 
@@ -11,7 +12,9 @@ abbrev start : tie.After-new-plane3 → tie.Start
 start q = q .before .before .before .before
 
 small : (q : tie.After-new-plane3) → start q .args .width * start q .args .height ≤ 2730
-small q = let s = start q in few-pixels (now (s .args .file)) (record { width = s .args .width; height = s .args .height; depth = s .args .depth }) (s .pre .0) (s .pre .1)
+small q =
+    let s = start q in
+    omega (arith, pixels-most (now (s .args .file)) (record { width = s .args .width; height = s .args .height; depth = s .args .depth }) (s .pre .0), s .pre .1)
 
 new-plane-requires : tie.Need-new-plane-requires
 new-plane-requires c κs = search needs

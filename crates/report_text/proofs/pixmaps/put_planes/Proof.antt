@@ -4,8 +4,8 @@ use Rattle.stage.specs.Pixmap.{Header}
 use mathlib.Core.Path.{ap}
 use denote.Ref.{now}
 use Rattle.stage.specs.Planes.{triple}
+use Rattle.pixmap.proofs.Agreement.{filled-planes}
 use Rattle.report_text.specs.Report.{lines, printed}
-use Rattle.report_text.proofs.Pictures.{planes-filled}
 use Rattle.report_text.proofs.Written.{wrote-as}
 use Rattle.report_text.proofs.pixmaps.put_planes.Statement.{statement}
 use Rattle.report_text.proofs.pixmaps.put_planes.Tie as tie
@@ -31,7 +31,7 @@ returns c =
     let s = p .before .before .before .before .before in
     let a = s .args in
     let h : Header = record { width = a .width; height = a .height; depth = a .depth } in
-    let e = planes-filled (now (a .file)) h (s .pre .0) (triple (now (a .c1)) (now (a .c2)) (now (a .c3))) (p .planes .result) _ _ _ (s .pre .1) (p .planes .ensures) in
+    let e = filled-planes (now (a .file)) h (s .pre .0) (triple (now (a .c1)) (now (a .c2)) (now (a .c3))) (p .planes .result) _ _ _ (s .pre .1) (p .planes .ensures) in
     (wrote-as (ap (λ x. printed (lines h x)) e) (c .put-picture .ensures .0), c .put-picture .ensures .1)
 
 pub put-planes-spec : {M : Type 1} → statement M
