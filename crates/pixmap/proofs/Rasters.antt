@@ -10,17 +10,24 @@ use Rattle.integers.specs.Lists.{at, Changed}
 use Rattle.integers.proofs.Lists.{ext-at}
 use Rattle.stage.specs.Pixmap.{everyThird}
 
-third-at : (l : List ℕ) (k : ℕ) → 3 * k < length l → at (everyThird l) k ≡ pos (getD l (3 * k) 0)
+three : (k : ℕ) → 3 * suc k ≡ suc (suc (suc (3 * k)))
+three k = omega arith
+
+third-at : (l : List ℕ) (k : ℕ) → at (everyThird l) k ≡ pos (getD l (3 * k) 0)
 unfolding everyThird
-third-at [] k h = absurd (omega arith)
-third-at (a ∷ []) zero h = refl
-third-at (a ∷ b ∷ []) zero h = refl
-third-at (a ∷ b ∷ c ∷ l) zero h = refl
-third-at (a ∷ []) (suc k) h = absurd (omega arith)
-third-at (a ∷ b ∷ []) (suc k) h = absurd (omega arith)
-third-at (a ∷ b ∷ c ∷ l) (suc k) h =
-    let e : 3 * suc k ≡ suc (suc (suc (3 * k))) = omega arith in
-    rw e (third-at l k (omega arith))
+third-at [] k = refl
+third-at (a ∷ []) zero = refl
+third-at (a ∷ b ∷ []) zero = refl
+third-at (a ∷ b ∷ c ∷ l) zero = refl
+third-at (a ∷ []) (suc k) = rw (three k)
+third-at (a ∷ b ∷ []) (suc k) = rw (three k)
+third-at (a ∷ b ∷ c ∷ l) (suc k) = rw (three k) (third-at l k)
+
+-- pixel k, `offset` bytes into it, is byte 3 × k + offset; past the end both are 0
+pub sample-byte : (raster : List ℕ) (offset k : ℕ) → pos (getD raster (3 * k + offset) 0) ≡ at (everyThird (drop offset raster)) k
+sample-byte raster offset k =
+    let e : 3 * k + offset ≡ offset + 3 * k = omega arith in
+    sym (third-at (drop offset raster) k ∙ ap pos (getD-drop offset raster (3 * k) 0 ∙ ap (λ (n : ℕ). getD raster n 0) (sym e)))
 
 third-long : (l : List ℕ) (n : ℕ) → length l ≤ 3 * n → 3 * n < length l + 3 → length (everyThird l) ≡ n
 unfolding everyThird
@@ -41,5 +48,4 @@ filled raster offset {n} {before} {after} u h e o =
     let d = length-drop offset raster in
     ext-at after (everyThird l) (u .long ∙ sym (third-long l (length before) (omega arith) (omega arith)))
     (λ k b. let i : k < length before = omega (arith, u .long) in
-    let q : getD l (3 * k) 0 ≡ getD raster (3 * k + offset) 0 = getD-drop offset raster (3 * k) 0 ∙ ap (λ (x : ℕ). getD raster x 0) (omega arith) in
-    u .new k (omega arith) (omega arith) ∙ sym (third-at l k (omega arith) ∙ ap pos q))
+    u .new k (omega arith) (omega arith) ∙ sample-byte raster offset k)
