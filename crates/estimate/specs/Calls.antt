@@ -1,5 +1,4 @@
 -- The answer of both calls, and what holds once nothing is refused.
-use mathlib.Core.Path.{_≡_}
 use mathlib.Core.List.{List}
 use Prim.Native.Nat.{ℕ, _*_, _≤_}
 use lib.Dec.{T}

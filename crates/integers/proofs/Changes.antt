@@ -11,7 +11,7 @@ use lib.ListN.{length, set, length-set}
 use lib.Seq.{getD-set-same, getD-set-other}
 use Rattle.integers.specs.Parts.{In}
 use Rattle.integers.specs.Lists.{at, AllIn, mapIndexed, Changed}
-use Rattle.integers.proofs.Lists.{ext-at, length-mapIndexed, at-mapped, at-past}
+use Rattle.integers.proofs.Lists.{ext-at, length-mapIndexed, at-mapped}
 
 pub changed-none : (f : ℕ → ℤ → ℤ) {i j : ℕ} (l : List ℤ) → i ≡ j → Changed f i j l l
 changed-none f {i} {j} l e = record { long = refl; new = λ k p q. absurd (omega arith); low = λ k p. refl; high = λ k p. refl }
@@ -56,15 +56,6 @@ changed-all {f} {before} {after} {n} u h =
     ext-at after (mapIndexed f 0 before) (u .long ∙ sym (length-mapIndexed f 0 before))
     (λ k b. let p : k < length before = omega (arith, u .long) in
     u .new k (omega arith) (omega arith) ∙ sym (at-mapped f before k p))
-
--- and back
-pub all-changed : (f : ℕ → ℤ → ℤ) (before : List ℤ) → Changed f 0 (length before) before (mapIndexed f 0 before)
-all-changed f before = record {
-  long = length-mapIndexed f 0 before;
-  new = λ k p q. at-mapped f before k q;
-  low = λ k p. absurd (omega arith);
-  high = λ k p. at-past (mapIndexed f 0 before) k (omega (arith, length-mapIndexed f 0 before)) ∙ sym (at-past before k p);
-}
 
 -- a part changed twice
 pub changed-twice : {f g : ℕ → ℤ → ℤ} {before between after : List ℤ} {i j : ℕ} → Changed f i j before between → Changed g i j between after → Changed (λ k z. g k (f k z)) i j before after

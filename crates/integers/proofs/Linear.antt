@@ -2,7 +2,6 @@
 --   eq-lin (simp flat (simp count (omega arith)))     x ≡ y
 --   in-lin (simp flat (simp count (omega arith)))     In l h z
 --   fits-lin (simp flat (simp count (omega arith)))   SFits w z
---   le-lin (simp flat (simp count (omega arith)))     x ≤ℤ y
 -- and a range of a sum, for `omega`, is `simp count at (simp flat at (lin-in h))`.
 use mathlib.Core.Path.{_≡_, refl}
 use mathlib.Core.Logic.{_↔_}
@@ -11,13 +10,11 @@ use native.Mathlib.Omega.{arith}
 use native.Mathlib.Nat.{le-refl}
 use lib.Pow.{ones-lt}
 use lib.IntN.{ℤ, pos, _+ℤ_, _*ℤ_, negℤ, +ℤ-assoc, negℤ-+ℤ, negℤ-negℤ, *ℤ-comm}
-use lib.Signed.{_≤ℤ_}
 use mir.Syntax.{Width}
 use mir.Val.{SFits, hbits}
 use Rattle.integers.specs.Parts.{posPart, negPart, In}
 use Rattle.integers.proofs.Parts.{add-difference, one-part, eq-parts}
 use Rattle.integers.proofs.Multiples.{scaled, times-add, times-neg, times-times, right-neg, left-neg}
-use Rattle.integers.proofs.Order.{le-parts, parts-le}
 use Rattle.integers.proofs.Ranges.{in-fits}
 
 -- ---- a sum as a row of multiples: rest + k x, rest − k x, and 0
@@ -97,10 +94,6 @@ pub eq-lin : {x y : ℤ} → AtLeast 0 (minus x y) 0 0 × AtLeast 0 (minus y x) 
 unfolding minus
 eq-lin {x} {y} b = let p = simp count at (b .0) in let q = simp count at (b .1) in eq-parts x y (omega arith)
 
-pub le-lin : {x y : ℤ} → AtLeast 0 (minus y x) 0 0 → x ≤ℤ y
-unfolding minus
-le-lin {x} {y} b = let p = simp count at b in parts-le x y (omega arith)
-
 pub in-lin : {l h : ℕ} {z : ℤ} → AtLeast l (minus z (pos 0)) 0 0 × AtLeast h (minus (pos 0) z) 0 0 → In l h z
 unfolding minus
 in-lin {l} {h} {z} b =
@@ -116,7 +109,3 @@ fits-lin {w} {z} b = let i : In (2 ^ hbits w) (2 ^ hbits w - 1) z = in-lin b in 
 pub lin-in : {l h : ℕ} {z : ℤ} → In l h z → AtLeast l (minus z (pos 0)) 0 0 × AtLeast h (minus (pos 0) z) 0 0
 unfolding minus
 lin-in {l} {h} {z} x = simp count (omega arith)
-
-pub lin-le : {x y : ℤ} → x ≤ℤ y → AtLeast 0 (minus y x) 0 0
-unfolding minus
-lin-le {x} {y} h = simp count (omega (arith, le-parts x y h))

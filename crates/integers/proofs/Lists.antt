@@ -1,11 +1,9 @@
 -- Laws of lists of whole numbers by index.
 use mathlib.Core.Path.{_≡_, refl, ap, ap₂, _∙_}
-use mathlib.Core.Bool.{true, false}
 use mathlib.Core.Logic.{_↔_}
 use mathlib.Core.List.{List, [], _∷_}
 use Prim.Native.Nat.{ℕ, zero, suc, _+_, _<_, _≤_}
 use native.Mathlib.Omega.{arith}
-use native.Mathlib.Decide.{decLt}
 use native.Mathlib.Nat.{not-suc-le-zero, le-of-suc-le-suc}
 use lib.Dec.{T}
 use lib.IntN.{ℤ, pos}
@@ -13,7 +11,7 @@ use lib.ListN.{length, List·getD-eq-default}
 use lib.Seq.{ext-getD}
 use Rattle.integers.specs.Parts.{In, within}
 use Rattle.integers.specs.Lists.{at, AllIn, allWithin, mapIndexed}
-use Rattle.integers.proofs.Booleans.{holds-true, true-holds, fails-false, and-iff}
+use Rattle.integers.proofs.Booleans.{and-iff}
 use Rattle.integers.proofs.Ranges.{in-zero, in-wider, within-iff}
 
 pub ext-at : (l m : List ℤ) → length l ≡ length m → ((k : ℕ) → k < length l → at l k ≡ at m k) → l ≡ m
@@ -63,14 +61,6 @@ mapIndexed-every P Q o f h i (z ∷ l) p (suc k) = mapIndexed-every P Q o f h (s
 pub mapIndexed-in : {l h m n : ℕ} (f : ℕ → ℤ → ℤ) → ((i : ℕ) (z : ℤ) → In l h z → In m n (f i z)) → (i : ℕ) (xs : List ℤ) → AllIn l h xs → AllIn m n (mapIndexed f i xs)
 mapIndexed-in {l} {h} {m} {n} f g i xs a = record { each = mapIndexed-every (In l h) (In m n) (in-zero m n) f g i xs (a .each) }
 
--- ---- AllIn
-pub all-below : {l h : ℕ} (xs : List ℤ) → ((k : ℕ) → k < length xs → In l h (at xs k)) → AllIn l h xs
-all-below {l} {h} xs f = record { each = λ k. go k (decLt k (length xs)) }
-  where
-    go : (k : ℕ) → Dec (k < length xs) → In l h (at xs k)
-    go k (yes p) = f k p
-    go k (no p) = rw (at-past xs k (omega arith)) (in-zero l h)
-
 pub all-wider : {k l m n : ℕ} {xs : List ℤ} → AllIn k l xs → k ≤ m → l ≤ n → AllIn m n xs
 all-wider a p q = record { each = λ k. in-wider (a .each k) p q }
 
@@ -92,12 +82,3 @@ allWithin-iff l h (z ∷ xs) =
       (λ t. all-cons .1 (first .0 (both .0 t .0), rest .0 (both .0 t .1))),
       (λ a. both .1 (first .1 (all-cons .0 a .0), rest .1 (all-cons .0 a .1))),
     )
-
-pub allWithin-true : (l h : ℕ) (xs : List ℤ) → allWithin l h xs ≡ true → AllIn l h xs
-allWithin-true l h xs e = allWithin-iff l h xs .0 (true-holds e)
-
-pub true-allWithin : (l h : ℕ) (xs : List ℤ) → AllIn l h xs → allWithin l h xs ≡ true
-true-allWithin l h xs a = holds-true (allWithin l h xs) (allWithin-iff l h xs .1 a)
-
-pub false-allWithin : (l h : ℕ) (xs : List ℤ) → (AllIn l h xs → ⊥) → allWithin l h xs ≡ false
-false-allWithin l h xs a = fails-false (allWithin l h xs) (λ t. a (allWithin-iff l h xs .0 t))

@@ -4,7 +4,7 @@ use mathlib.Core.Bool.{true, false, not}
 use Prim.Native.Nat.{ℕ, _+_, _≤_, _<_}
 use native.Mathlib.Omega.{arith}
 use native.Mathlib.Decide.{decLe, decLt}
-use borrow.Author.Tests.{not-true, not-false, lt-leb, lt-ltb, le-leb, le-ltb}
+use borrow.Author.Tests.{lt-leb, lt-ltb, le-leb, le-ltb}
 use lib.Dec.{T, T-not, ltb, leb, leb→le, le→leb}
 use lib.IntN.{ℤ, pos, negsuc}
 use lib.Signed.{_≤ℤ_, leZ, ltZ}
@@ -64,12 +64,6 @@ true-leZ x y h = holds-true (leZ x y) (parts-leZ x y h)
 
 pub false-leZ : (x y : ℤ) → posPart y + negPart x < posPart x + negPart y → leZ x y ≡ false
 false-leZ x y h = fails-false (leZ x y) (λ t. let k = leZ-parts x y t in omega arith)
-
-pub true-ltZ : (x y : ℤ) → posPart x + negPart y < posPart y + negPart x → ltZ x y ≡ true
-true-ltZ x y h = not-false (ltZ x y) (sym (leZ-not-ltZ y x) ∙ false-leZ y x h)
-
-pub false-ltZ : (x y : ℤ) → posPart y + negPart x ≤ posPart x + negPart y → ltZ x y ≡ false
-false-ltZ x y h = not-true (ltZ x y) (sym (leZ-not-ltZ y x) ∙ true-leZ y x h)
 
 -- the order as a record
 pub le-parts : (x y : ℤ) → x ≤ℤ y → posPart x + negPart y ≤ posPart y + negPart x

@@ -1,18 +1,17 @@
 -- Laws of ranges: In below above z.
 use mathlib.Core.Path.{_≡_, refl, sym, ap, _∙_}
-use mathlib.Core.Bool.{true, false}
 use mathlib.Core.Logic.{_↔_}
-use Prim.Native.Nat.{ℕ, suc, _+_, _*_, _^_, _≤_, _<_, zero-le, suc-le-suc}
+use Prim.Native.Nat.{ℕ, _+_, _^_, _≤_, _<_, zero-le, suc-le-suc}
 use native.Mathlib.Omega.{arith}
-use native.Mathlib.Nat.{div-le-self, mul-le-mul, le-trans, le-suc}
+use native.Mathlib.Nat.{div-le-self, le-trans, le-suc}
 use lib.Dec.{T, ltb, leb, ltb→lt, leb→le, le→leb, lit≤}
-use lib.IntN.{ℤ, pos, negsuc, _+ℤ_, _-ℤ_, _*ℤ_, negℤ}
+use lib.IntN.{ℤ, pos, negsuc, _+ℤ_, _-ℤ_, negℤ}
 use lib.Signed.{nonNeg}
 use mir.Syntax.{Width}
 use mir.Val.{SFits, hbits, ofZ, toZ}
 use mir.Facts.{toZ-ofZ, toZ-pos}
 use Rattle.integers.specs.Parts.{posPart, negPart, In, within, floorDiv}
-use Rattle.integers.proofs.Booleans.{holds-true, true-holds, fails-false, and-iff}
+use Rattle.integers.proofs.Booleans.{and-iff}
 use Rattle.integers.proofs.Parts.{add-difference, neg-parts}
 
 pub in-zero : (l h : ℕ) → In l h (pos 0)
@@ -29,13 +28,6 @@ in-neg {z} x = let e = neg-parts z in omega arith
 
 pub in-sub : {k l m n : ℕ} {x y : ℤ} → In k l x → In m n y → In (k + n) (l + m) (x -ℤ y)
 in-sub p q = in-add p (in-neg q)
-
--- a product of two numbers, each in a range about 0
-pub in-mul : {l m : ℕ} {x y : ℤ} → In l l x → In m m y → In (l * m) (l * m) (x *ℤ y)
-in-mul {x = pos a} {y = pos b} p q = record { low = zero-le; high = mul-le-mul (p .high) (q .high) }
-in-mul {x = pos a} {y = negsuc b} p q = in-neg {z = pos (a * suc b)} (record { low = zero-le; high = mul-le-mul (p .high) (q .low) })
-in-mul {x = negsuc a} {y = pos b} p q = in-neg {z = pos (suc a * b)} (record { low = zero-le; high = mul-le-mul (p .low) (q .high) })
-in-mul {x = negsuc a} {y = negsuc b} p q = record { low = zero-le; high = mul-le-mul (p .low) (q .low) }
 
 -- a floor is no further from 0
 pub in-floorDiv : {k l : ℕ} {z : ℤ} (d : ℕ) → In k l z → In k l (floorDiv z d)
@@ -92,12 +84,3 @@ within-iff l h z =
       (λ t. record { low = leb→le (negPart z) l (e .0 t .0); high = leb→le (posPart z) h (e .0 t .1) }),
       (λ x. e .1 (le→leb (negPart z) l (x .low), le→leb (posPart z) h (x .high))),
     )
-
-pub within-true : (l h : ℕ) (z : ℤ) → within l h z ≡ true → In l h z
-within-true l h z e = within-iff l h z .0 (true-holds e)
-
-pub true-within : (l h : ℕ) (z : ℤ) → In l h z → within l h z ≡ true
-true-within l h z x = holds-true (within l h z) (within-iff l h z .1 x)
-
-pub false-within : (l h : ℕ) (z : ℤ) → (In l h z → ⊥) → within l h z ≡ false
-false-within l h z x = fails-false (within l h z) (λ t. x (within-iff l h z .0 t))

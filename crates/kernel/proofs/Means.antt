@@ -1,6 +1,6 @@
 -- The rounded mean as a number and a division of what is left.
 use mathlib.Core.Path.{_≡_, ap}
-use Prim.Native.Nat.{ℕ, _+_, _*_, _/_, _≤_}
+use Prim.Native.Nat.{ℕ, _*_, _/_, _≤_}
 use native.Mathlib.Omega.{arith}
 use native.Mathlib.Nat.{mul-div-le, lt-mul-div-succ}
 use lib.IntN.{ℤ, pos, _+ℤ_, _*ℤ_}

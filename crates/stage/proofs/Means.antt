@@ -1,7 +1,6 @@
 -- A filter keeps its plane's range, whatever the centre weight, the border and the samples.
 use mathlib.Core.Path.{_≡_, ap, _∙_}
 use mathlib.Core.Bool.{Bool, true, false, cond}
-use mathlib.Core.List.{List}
 use Prim.Native.Nat.{ℕ, zero, suc, _+_, _*_, _-_, _/_, _≤_, _<_}
 use native.Mathlib.Nat.{mul-zero, mul-comm, mul-left-comm, suc-mul, add-mul, mul-le-mul-left, div-lt-iff-lt-mul, div-zero}
 use native.Mathlib.Omega.{arith}
@@ -9,7 +8,7 @@ use lib.Dec.{eqb}
 use lib.IntN.{ℤ, pos, negsuc, _+ℤ_, _*ℤ_}
 use lib.ListN.{getD}
 use Rattle.integers.specs.Parts.{posPart, negPart, In, floorDiv}
-use Rattle.integers.specs.Lists.{at, AllIn}
+use Rattle.integers.specs.Lists.{at}
 use Rattle.integers.proofs.Parts.{Difference, add-difference, scale-parts}
 use Rattle.integers.proofs.Ranges.{in-zero}
 use Rattle.stage.specs.Filter.{weightSum, weightedSum, roundedMean, mean, filtered, weight, windowIndex, windowSample, centreWeights}

@@ -1,7 +1,7 @@
 -- At every depth the ranges computed from the steps are those of 01's table.
 use mathlib.Core.Path.{_≡_, refl, ap₂, sym, subst}
 use mathlib.Core.List.{_∷_}
-use Prim.Native.Nat.{ℕ, _+_, _*_, _-_, _/_, _≤_, _^_, max}
+use Prim.Native.Nat.{ℕ, _+_, _*_, _-_, _≤_, _^_}
 use native.Mathlib.Omega.{arith}
 use lib.Pow.{pow-pos, pow-add}
 use Rattle.stage.specs.Planes.{Triple}

@@ -1,17 +1,17 @@
 -- What a step makes of planes within ranges lies within the ranges computed from the step; so forward and back. Wider ranges
 -- to begin with give wider ranges to end with.
-use mathlib.Core.Path.{_≡_, refl, subst}
+use mathlib.Core.Path.{_≡_, subst}
 use mathlib.Core.Bool.{Bool, true, false, cond}
 use mathlib.Core.List.{List, [], _∷_}
-use Prim.Native.Nat.{ℕ, zero, suc, _+_, _/_, _≤_, max}
+use Prim.Native.Nat.{ℕ, zero, suc, _≤_}
 use native.Mathlib.Omega.{arith}
 use lib.IntN.{ℤ, negℤ}
 use lib.ListN.{take, drop}
-use Rattle.integers.specs.Parts.{posPart, negPart, In}
+use Rattle.integers.specs.Parts.{In}
 use Rattle.integers.specs.Lists.{AllIn}
 use Rattle.integers.proofs.Parts.{add-difference, neg-parts, floorDiv-parts}
 use Rattle.integers.proofs.Lists.{mapIndexed-in, all-wider}
-use Rattle.stage.specs.Planes.{Plane, Triple, Planes, get, put}
+use Rattle.stage.specs.Planes.{Plane, Triple, Planes, get}
 use Rattle.stage.specs.Steps.{Setup, Step, Term, Lifting, add, subtract, negate, _ᵈ_, _⊕_, _/2, _/4, value, lift, lifted, skipped, step, run, undo, reversed}
 use Rattle.stage.specs.Ranges.{Range, termRange, liftRange, stepRanges, ranges, undoneRanges, InRanges}
 use Rattle.stage.proofs.Triples.{put-both, put-get}

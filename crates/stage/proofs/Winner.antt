@@ -7,7 +7,7 @@ use Prim.Native.Nat.{ℕ, zero, suc, _≤_, _<_}
 use native.Mathlib.Nat.{eq-or-lt-of-le}
 use native.Mathlib.Omega.{arith}
 use lib.Dec.{ltb, ltb→lt, nltb→le}
-use lib.ListN.{set, getD}
+use lib.ListN.{set}
 use Rattle.integers.proofs.Booleans.{true-holds, false-fails}
 use Rattle.stage.specs.Search.{winner}
 use Rattle.stage.specs.Theorems.{Wins, WinnerWins}

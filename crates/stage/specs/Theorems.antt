@@ -2,7 +2,7 @@
 use mathlib.Core.Path.{_≡_}
 use mathlib.Core.Logic.{_↔_}
 use mathlib.Core.List.{List, [], _∷_, map}
-use Prim.Native.Nat.{ℕ, zero, suc, _+_, _*_, _-_, _^_, _≤_, _<_}
+use Prim.Native.Nat.{ℕ, _*_, _-_, _^_, _≤_, _<_}
 use lib.Dec.{T}
 use lib.IntN.{ℤ, pos, _+ℤ_, _*ℤ_}
 use lib.ListN.{length, take, drop, set, getD}
@@ -11,9 +11,9 @@ use mir.Val.{SFits}
 use Rattle.integers.specs.Parts.{In}
 use Rattle.integers.specs.Lists.{AllIn}
 use Rattle.stage.specs.Answers.{Outcome, done, refused, between, sized}
-use Rattle.stage.specs.Planes.{Plane, C1, C2, C3, Triple, Planes, triple, get}
+use Rattle.stage.specs.Planes.{Plane, Triple, Planes, triple, get}
 use Rattle.stage.specs.Filter.{weight, weightSum, weightedSum, windowSample, mean, filtered}
-use Rattle.stage.specs.Steps.{Setup, Step, steps, run, undo, transforms}
+use Rattle.stage.specs.Steps.{steps, run, undo, transforms}
 use Rattle.stage.specs.Ranges.{Range, ranges, sampleRanges, finishedRanges, InRanges}
 use Rattle.stage.specs.Transform.{choicesFit, setup, transformed, untransformed, forward, inverse}
 use Rattle.stage.specs.Search.{winner}
