@@ -1,14 +1,11 @@
 // Passes over border samples. They are few, so they take the pass at run time and divide.
-ghost use mathlib.Core.Path.{_≡_};
 ghost use Prim.Native.Nat.{_≤_, _<_, _+_, _*_};
 ghost use lib.ListN.{length};
 ghost use Rattle.integers.specs.Lists.{AllIn, Changed};
-ghost use Rattle.stage.specs.Filter.{mean};
 ghost use Rattle.kernel.specs.Pass.{applied};
 ghost use Rattle.kernel.specs.Part.{PartIn};
-ghost use Rattle.kernel.specs.Window.{Indicator, WindowIn, windowMean};
+ghost use Rattle.kernel.specs.Window.{WindowIn, windowMean};
 use crate::pass::apply;
-use crate::window::mean_at;
 use crate::window::window_mean;
 
 // The sample at index i, by the mean of the window's positions that are present.
@@ -36,7 +33,7 @@ pub fn lift_sample(
 }
 
 // Means at the indices from .. to − 1 of a first or last row, without its corners.
-fn edge_loop(
+pub fn edge_loop(
     c: &mut [i32],
     a: &[i32],
     width: usize,
@@ -58,57 +55,5 @@ fn edge_loop(
     while i < to {
         lift_sample(c, a, width, i, 1, 1, above, below, weight, pass);
         i += 1;
-    }
-}
-
-// Means over row y, the first or the last of several: above and below are literals one call above.
-pub fn lift_edge(
-    c: &mut [i32],
-    a: &[i32],
-    width: usize,
-    height: usize,
-    y: usize,
-    above: usize,
-    below: usize,
-    weight: u32,
-    pass: u32,
-)
-    requires { ⌜ (1 < width) × (y < height) × Indicator 0 y above × Indicator (y + 1) height below × (pass ≤ 8) ⌝ }
-    requires { ⌜ (length (now a) ≡ width * height) × (length (now c) ≡ width * height) ⌝ }
-    requires { ⌜ AllIn 524288 524288 (now a) ⌝ }
-    requires { ⌜ PartIn 4194304 (y * width) (y * width + width) (now c) ⌝ }
-    requires { ⌜ (1 ≤ weight) × (weight ≤ 1024) ⌝ }
-    ensures { λ _. ⌜ Changed (λ i x. applied pass x (mean width height weight (now (a .entry)) i)) (y * width) (y * width + width) (now (c .entry)) (now (c .exit)) ⌝ }
-{
-    let start = y * width;
-    let last = start + width - 1;
-    lift_sample(c, a, width, start, 0, 1, above, below, weight, pass);
-    edge_loop(c, a, width, above, below, weight, pass, start + 1, last);
-    lift_sample(c, a, width, last, 1, 0, above, below, weight, pass);
-}
-
-// Means over row y of any picture, also of one column or one row.
-pub fn lift_border(
-    c: &mut [i32],
-    a: &[i32],
-    width: usize,
-    height: usize,
-    y: usize,
-    weight: u32,
-    pass: u32,
-)
-    requires { ⌜ (y < height) × (pass ≤ 8) ⌝ }
-    requires { ⌜ (length (now a) ≡ width * height) × (length (now c) ≡ width * height) ⌝ }
-    requires { ⌜ AllIn 524288 524288 (now a) ⌝ }
-    requires { ⌜ PartIn 4194304 (y * width) (y * width + width) (now c) ⌝ }
-    requires { ⌜ (1 ≤ weight) × (weight ≤ 1024) ⌝ }
-    ensures { λ _. ⌜ Changed (λ i x. applied pass x (mean width height weight (now (a .entry)) i)) (y * width) (y * width + width) (now (c .entry)) (now (c .exit)) ⌝ }
-{
-    let mut x = 0;
-    while x < width {
-        let i = y * width + x;
-        let f = mean_at(a, width, height, x, y, weight);
-        c[i] = apply(pass, c[i], f);
-        x += 1;
     }
 }

@@ -8,9 +8,8 @@ ghost use Rattle.stage.specs.Filter.{mean};
 ghost use Rattle.kernel.specs.Pass.{applied};
 ghost use Rattle.kernel.specs.Part.{PartIn};
 ghost use Rattle.kernel.specs.Centre.{CentreWeight};
-ghost use Rattle.kernel.specs.Window.{interiorMean, windowless};
-use crate::border::lift_border;
-use crate::border::lift_edge;
+ghost use Rattle.kernel.specs.Window.{interiorMean, windowless, windowMean};
+use crate::border::edge_loop;
 use crate::border::lift_sample;
 use crate::centre::Centre;
 use crate::pass::ADD;
@@ -23,6 +22,7 @@ use crate::pass::QUARTER_SUBTRACT;
 use crate::pass::SUBTRACT;
 use crate::pass::SUBTRACT_HALF;
 use crate::pass::apply;
+use crate::window::indicator;
 use crate::window::interior_mean;
 use crate::window::windowless_value;
 
@@ -112,28 +112,30 @@ fn lift_interior(
     }
 }
 
-// Means over row y, which is neither the first nor the last.
-fn lift_inner(
+// Means at the indices from .. to − 1 of a row, without its ends: above and below are 1 where there is such a row, and else 0.
+fn lift_between(
     c: &mut [i32],
     a: &[i32],
     width: usize,
-    height: usize,
-    y: usize,
+    above: usize,
+    below: usize,
     centre: Centre,
     pass: u32,
+    from: usize,
+    to: usize,
 )
-    requires { ⌜ (1 < width) × (0 < y) × (y + 1 < height) × (pass ≤ 8) ⌝ }
-    requires { ⌜ (length (now a) ≡ width * height) × (length (now c) ≡ width * height) ⌝ }
+    requires { ⌜ (above ≤ 1) × (below ≤ 1) × (above * width + 1 ≤ from) × (to + below * width < length (now a)) ⌝ }
+    requires { ⌜ (from ≤ to) × (to ≤ length (now c)) × (pass ≤ 8) ⌝ }
     requires { ⌜ AllIn 524288 524288 (now a) ⌝ }
-    requires { ⌜ PartIn 4194304 (y * width) (y * width + width) (now c) ⌝ }
+    requires { ⌜ PartIn 4194304 from to (now c) ⌝ }
     requires { ⌜ CentreWeight (centre .weight) (centre .offset) (centre .reciprocal) ⌝ }
-    ensures { λ _. ⌜ Changed (λ i x. applied pass x (mean width height (centre .weight) (now (a .entry)) i)) (y * width) (y * width + width) (now (c .entry)) (now (c .exit)) ⌝ }
+    ensures { λ _. ⌜ Changed (λ i x. applied pass x (windowMean width 1 1 above below (centre .weight) (now (a .entry)) i)) from to (now (c .entry)) (now (c .exit)) ⌝ }
 {
-    let start = y * width;
-    let last = start + width - 1;
-    lift_sample(c, a, width, start, 0, 1, 1, 1, centre.weight, pass);
-    lift_interior(c, a, width, centre, pass, start + 1, last);
-    lift_sample(c, a, width, last, 1, 0, 1, 1, centre.weight, pass);
+    if above + below == 2 {
+        lift_interior(c, a, width, centre, pass, from, to);
+    } else {
+        edge_loop(c, a, width, above, below, centre.weight, pass, from, to);
+    }
 }
 
 // Means over row y.
@@ -153,20 +155,16 @@ pub fn lift_row(
     requires { ⌜ CentreWeight (centre .weight) (centre .offset) (centre .reciprocal) ⌝ }
     ensures { λ _. ⌜ Changed (λ i x. applied pass x (mean width height (centre .weight) (now (a .entry)) i)) (y * width) (y * width + width) (now (c .entry)) (now (c .exit)) ⌝ }
 {
+    let above = indicator(0, y);
+    let below = indicator(y + 1, height);
     let weight = centre.weight;
+    let start = y * width;
     if 1 < width {
-        if 0 < y {
-            if y + 1 < height {
-                lift_inner(c, a, width, height, y, centre, pass);
-                return;
-            }
-            lift_edge(c, a, width, height, y, 1, 0, weight, pass);
-            return;
-        }
-        if 1 < height {
-            lift_edge(c, a, width, height, y, 0, 1, weight, pass);
-            return;
-        }
+        let last = start + width - 1;
+        lift_sample(c, a, width, start, 0, 1, above, below, weight, pass);
+        lift_between(c, a, width, above, below, centre, pass, start + 1, last);
+        lift_sample(c, a, width, last, 1, 0, above, below, weight, pass);
+    } else if width == 1 {
+        lift_sample(c, a, width, start, 0, 0, above, below, weight, pass);
     }
-    lift_border(c, a, width, height, y, weight, pass);
 }
