@@ -7,7 +7,7 @@ use native.Mathlib.Omega.{arith}
 use native.Mathlib.Nat.{not-suc-le-zero, le-of-suc-le-suc}
 use lib.Dec.{T}
 use lib.IntN.{ℤ, pos}
-use lib.ListN.{length, List·getD-eq-default}
+use lib.ListN.{length}
 use lib.Seq.{ext-getD}
 use Rattle.integers.specs.Parts.{In, within}
 use Rattle.integers.specs.Lists.{at, AllIn, allWithin, mapIndexed}
@@ -16,9 +16,6 @@ use Rattle.integers.proofs.Ranges.{in-zero, in-wider, within-iff}
 
 pub ext-at : (l m : List ℤ) → length l ≡ length m → ((k : ℕ) → k < length l → at l k ≡ at m k) → l ≡ m
 ext-at l m e h = ext-getD (pos 0) l m e h
-
-pub at-past : (l : List ℤ) (k : ℕ) → length l ≤ k → at l k ≡ pos 0
-at-past l k h = List·getD-eq-default l (pos 0) {n = k} h
 
 -- ---- mapIndexed
 pub length-mapIndexed : (f : ℕ → ℤ → ℤ) (i : ℕ) (l : List ℤ) → length (mapIndexed f i l) ≡ length l

@@ -1,4 +1,4 @@
--- The mean in the interior: 2^23 / weight off the sample, a division of what is not negative.
+-- The mean in the interior: 2^23 / weight is taken off the sample, so that the rest of the sum is not negative, and the rest is divided.
 use mathlib.Core.Path.{_≡_, ap, _∙_}
 use Prim.Native.Nat.{ℕ, _+_, _*_, _/_, _^_, _≤_, _<_}
 use native.Mathlib.Omega.{arith}

@@ -4,7 +4,7 @@ use mathlib.Core.Bool.{Bool, true, _&&_}
 use Prim.Native.Nat.{ℕ, zero, suc, _+_, _-_, _*_, _/_, _%_, _^_, _≤_, _<_}
 use native.Mathlib.Omega.{arith}
 use native.Mathlib.Decide.{decLt}
-use native.Mathlib.Nat.{mul-div-le, lt-mul-div-succ, div-add-mod', mod-lt, div-div-eq-div-mul, div-eq-of-lt-le, mul-le-mul, mul-le-mul-left, mul-le-mul-right, lt-of-mul-lt-mul-left, not-suc-le-zero}
+use native.Mathlib.Nat.{div-add-mod', mod-lt, div-div-eq-div-mul, div-eq-of-lt-le, mul-le-mul, mul-le-mul-left, mul-le-mul-right, lt-of-mul-lt-mul-left, not-suc-le-zero}
 use lib.Dec.{T, eqb, leb, eqb→eq, leb→le}
 use lib.ListN.{getD}
 use Rattle.integers.proofs.Booleans.{and-iff}
@@ -35,12 +35,6 @@ eighths-divide {d} {m} n r h =
     let slight : n * e < p = let b : e ≤ d = omega (arith, r .most) in let a = mul-le-mul-left n b in omega arith in
     div-div-eq-div-mul (n * m) (2 ^ 32) 8
     ∙ quotient d m p e n (n / d) (n % d) (omega (arith, r .least)) (sym (div-add-mod' n d)) (mod-lt n (r .positive)) slight
-
-pub reciprocal-is : (d : ℕ) → 1 ≤ d → Reciprocal d (2 ^ 35 / d + 1)
-reciprocal-is d h =
-    let a = mul-div-le (2 ^ 35) d in
-    let b = lt-mul-div-succ (2 ^ 35) h in
-    record { positive = h; least = omega arith; most = omega arith }
 
 pub product-fits : {n m : ℕ} → n < 2 ^ 32 → m < 2 ^ 32 → n * m < 2 ^ 64
 product-fits {n} {m} h k =

@@ -15,7 +15,7 @@ pub struct Centre {
 // Indexed by filter number less one.
 pub const CENTRE_WEIGHTS: [u32; 11] = [1, 2, 4, 8, 16, 32, 64, 128, 256, 512, 1024];
 
-// 2^35 / d, rounded up
+// The least whole number above 2^35 / d.
 fn reciprocal_of(d: u32) -> u32
     requires { ⌜ 9 ≤ d ⌝ }
     ensures { λ r. ⌜ Reciprocal d r ⌝ }

@@ -46,7 +46,7 @@ lift-sample-requires c κs =
     let b = t .before .before .before in
     let p = b .pre .1 in
     let k = known t in
-    ((omega arith, b .pre .0 .1), (k .first, (p .1 .0, (part-of (p .1 .1 .0) (omega arith) (omega arith), (p .1 .1 .1 .least, p .1 .1 .1 .most)))))
+    ((omega arith, b .pre .0 .1), (omega arith, (p .1 .0, (part-of (p .1 .1 .0) (omega arith) (omega arith), (p .1 .1 .1 .least, p .1 .1 .1 .most)))))
 
 add-lift-between : tie.Need-add-lift-between
 add-lift-between c =
@@ -74,7 +74,7 @@ lift-sample-requires-2 c κs =
     let h = t .if1 .taken in
     let l = u .long in
     let m = v .long in
-    ((omega arith, b .pre .0 .1), (k .last, (p .1 .0, (part-after v (part-after u (part-of (p .1 .1 .0) (omega arith) (omega arith)) (omega arith)) (omega arith), (p .1 .1 .1 .least, p .1 .1 .1 .most)))))
+    ((omega arith, b .pre .0 .1), (omega arith, (p .1 .0, (part-after v (part-after u (part-of (p .1 .1 .0) (omega arith) (omega arith)) (omega arith)) (omega arith), (p .1 .1 .1 .least, p .1 .1 .1 .most)))))
 
 lift-sample-requires-3 : tie.Need-lift-sample-requires-3
 lift-sample-requires-3 c κs =
