@@ -1,16 +1,16 @@
 //! Prints the lines that the programs of the gate must write, from the reference alone, to make their
 //! files `stdout` again:
 //!
-//!     cargo run --release --bin gate -- transforms >../crates/transforms/stdout
-//!     cargo run --release --bin gate -- searches >../crates/searches/stdout
+//!     cargo run --release --bin gate -- transform_cases >../crates/transform_cases/stdout
+//!     cargo run --release --bin gate -- search_cases >../crates/search_cases/stdout
 
 use compare::generator::{self, Congruential};
 use compare::reference::{self, Estimated, Scratch, Settings};
 use std::process::exit;
 
 const USAGE: &str = "\
-gate transforms      what the program `transforms` writes
-gate searches        what the program `searches` writes
+gate transform_cases  what the program `transform_cases` writes
+gate search_cases     what the program `search_cases` writes
 ";
 
 type Planes = [Vec<i32>; 3];
@@ -142,7 +142,7 @@ fn picture(k: u32) {
     println!("{back}");
 }
 
-fn transforms() {
+fn transform_cases() {
     limits();
     (0..52).for_each(picture);
 }
@@ -175,7 +175,7 @@ fn search(settings: Settings, [noise, step]: [u32; 2], seed: u32, rounds: u32, p
     }
 }
 
-fn searches() {
+fn search_cases() {
     let sizes = [(1, 1), (2, 1), (1, 9), (3, 3), (16, 11), (40, 30), (64, 64), (17, 241), (100, 50)];
     let kinds = [[65536, 0], [1, 0], [2, 1], [1, 3], [9, 5]];
     for k in 0..45 {
@@ -203,8 +203,8 @@ fn searches() {
 fn main() {
     let words: Vec<String> = std::env::args().skip(1).collect();
     match words.iter().map(String::as_str).collect::<Vec<_>>()[..] {
-        ["transforms"] => transforms(),
-        ["searches"] => searches(),
+        ["transform_cases"] => transform_cases(),
+        ["search_cases"] => search_cases(),
         _ => {
             eprint!("{USAGE}");
             exit(2)

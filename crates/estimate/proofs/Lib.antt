@@ -1,9 +1,4 @@
-pub mod Passes
+pub mod Occurrences
 pub mod Bins
-pub mod Walk
+pub mod CountedIndices
 pub mod Estimates
-pub mod Zero
-pub mod Copies
-pub mod Refusals
-pub mod Trials
-pub mod Calls

@@ -2,12 +2,13 @@
 use mathlib.Core.Path.{_≡_}
 use mathlib.Core.Bool.{cond}
 use mathlib.Core.List.{List}
-use Prim.Native.Nat.{ℕ, _+_, _%_, _≤_, _<_}
+use Prim.Native.Nat.{ℕ, _+_, _*_, _%_, _≤_, _<_}
 use lib.Dec.{eqb}
 use lib.IntN.{ℤ, pos, _+ℤ_}
 use lib.ListN.{length, getD}
 use Rattle.integers.specs.Parts.{posPart}
 use Rattle.integers.specs.Lists.{AllIn}
+use Rattle.stage.specs.Logarithm.{Logarithms}
 use Rattle.stage.specs.Estimate.{occurrences}
 
 -- the samples lie in a range that is at most d wide
@@ -58,7 +59,19 @@ pub record Occurrences (f : ℕ → ℕ) (n : ℕ) (l : List ℕ) : Type 0 where
 pub record Remaining (f : ℕ → ℕ) (n m : ℕ) (l : List ℕ) : Type 0 where
   pub each : (x : ℕ) → entry l x ≡ cond (eqb (occurrences eqb f m x) 0) (occurrences eqb f n x) 0
 
--- An estimate e of one plane is answered; the bound lets three be added.
-pub record PlaneAnswer (e r : ℕ) : Type 0 where
+-- enough counters for residuals within −d .. d, all zero
+pub record Counters (d : ℕ) (l : List ℕ) : Type 0 where
+  pub enough : 2 * d < length l
+  pub zero : AllZero l
+
+-- a plane that is to be counted, with the table of logarithms
+pub record PlaneReady (w d : ℕ) (a : List ℤ) (l table : List ℕ) : Type 0 where
+  pub plane : Countable w d a
+  pub counters : Counters d l
+  pub logarithms : Logarithms table
+
+-- An estimate e of one plane is answered, and the counters are zero again; the bound lets three be added.
+pub record PlaneFound (d e r : ℕ) (l : List ℕ) : Type 0 where
   pub value : r ≡ e
   pub bound : r ≤ 3145728
+  pub counters : Counters d l

@@ -6,5 +6,7 @@ pub mod Multiples
 pub mod Linear
 pub mod FloorDivision
 pub mod Lists
+pub mod Slices
 pub mod Changes
+pub mod Copies
 pub mod Tests

@@ -4,14 +4,14 @@ use mathlib.Core.Bool.{cond}
 use mathlib.Core.List.{List}
 use Prim.Native.Nat.{ℕ, zero, suc, _+_, _*_, _-_, _/_, _%_, _≤_}
 use native.Mathlib.Omega.{arith}
-use native.Mathlib.Nat.{mul-le-mul-right, add-mul, suc-mul}
+use native.Mathlib.Nat.{suc-mul}
 use lib.Dec.{eqb}
 use lib.IntN.{ℤ, pos, _+ℤ_, _*ℤ_}
 use Rattle.integers.specs.Lists.{at}
 use Rattle.integers.proofs.Linear.{flat, count, eq-lin}
 use Rattle.stage.specs.Filter.{weight, weightSum, weightedSum, windowSample, roundedMean, mean}
-use Rattle.kernel.specs.Window.{neighbourSum, interiorMean, rowSum, WindowIn, windowMean}
-use Rattle.kernel.proofs.Windows.{about, Surroundings, window-weight, window-sample, weightSum-same, weightedSum-same}
+use Rattle.kernel.specs.Window.{neighbourSum, rowSum, windowWeight, windowMean}
+use Rattle.kernel.proofs.Windows.{indicatorAt, Neighbourhood, window-weight, window-sample, weightSum-same, weightedSum-same}
 
 -- an indicator times one of two numbers that are the same where it is 1
 times-same : (b : ℕ) (x y : ℤ) → b ≤ 1 → (1 ≤ b → x ≡ y) → pos b *ℤ x ≡ pos b *ℤ y
@@ -20,29 +20,31 @@ times-same (suc b) x y l f = ap (λ (z : ℤ). pos (suc b) *ℤ z) (f (omega ari
 
 -- ---- nine positions by rows, the centre's weight k + 1
 module _ (left right : ℕ) where
-  abbrev line : ℤ → ℤ → ℤ → ℤ
-  line x y z = pos left *ℤ x +ℤ y +ℤ pos right *ℤ z
+  abbrev weightedRow : ℤ → ℤ → ℤ → ℤ
+  weightedRow x y z = pos left *ℤ x +ℤ y +ℤ pos right *ℤ z
 
-  line-times : (u : ℕ) (x y z : ℤ) → pos (u * (left * 1)) *ℤ x +ℤ pos (u * (1 * 1)) *ℤ y +ℤ pos (u * (right * 1)) *ℤ z ≡ pos u *ℤ line x y z
-  line-times u x y z = eq-lin (simp flat (simp count (omega arith)))
+  weightedRow-times : (u : ℕ) (x y z : ℤ) → pos (u * (left * 1)) *ℤ x +ℤ pos (u * (1 * 1)) *ℤ y +ℤ pos (u * (right * 1)) *ℤ z ≡ pos u *ℤ weightedRow x y z
+  weightedRow-times u x y z = eq-lin (simp flat (simp count (omega arith)))
 
-  line-centre : (k : ℕ) (x y z : ℤ) → pos (1 * (left * 1)) *ℤ x +ℤ pos (1 * (1 * (k + 1))) *ℤ y +ℤ pos (1 * (right * 1)) *ℤ z ≡ line x y z +ℤ pos k *ℤ y
-  line-centre k x y z = eq-lin (simp flat (simp count (omega arith)))
+  weightedRow-centre : (k : ℕ) (x y z : ℤ) → pos (1 * (left * 1)) *ℤ x +ℤ pos (1 * (1 * (k + 1))) *ℤ y +ℤ pos (1 * (right * 1)) *ℤ z ≡ weightedRow x y z +ℤ pos k *ℤ y
+  weightedRow-centre k x y z = eq-lin (simp flat (simp count (omega arith)))
 
 by-rows : (a b c d e f g h i : ℤ) → pos 0 +ℤ a +ℤ b +ℤ c +ℤ d +ℤ e +ℤ f +ℤ g +ℤ h +ℤ i ≡ (d +ℤ e +ℤ f) +ℤ (a +ℤ b +ℤ c) +ℤ (g +ℤ h +ℤ i)
 by-rows a b c d e f g h i = eq-lin (simp flat (simp count (omega arith)))
 
 module _ (left right above below k : ℕ) where
   abbrev indicated : ℕ → ℕ
-  indicated n = about above below (n / 3) * (about left right (n % 3) * cond (eqb n 4) (k + 1) 1)
+  indicated n = indicatorAt above below (n / 3) * (indicatorAt left right (n % 3) * cond (eqb n 4) (k + 1) 1)
 
-  indicated-sum : (g : ℕ → ℤ) → weightedSum indicated g 9 ≡ line left right (g 3) (g 4) (g 5) +ℤ pos k *ℤ g 4 +ℤ pos above *ℤ line left right (g 0) (g 1) (g 2) +ℤ pos below *ℤ line left right (g 6) (g 7) (g 8)
+  indicated-sum : (g : ℕ → ℤ) → weightedSum indicated g 9 ≡ weightedRow left right (g 3) (g 4) (g 5) +ℤ pos k *ℤ g 4 +ℤ pos above *ℤ weightedRow left right (g 0) (g 1) (g 2) +ℤ pos below *ℤ weightedRow left right (g 6) (g 7) (g 8)
   indicated-sum g =
       let t : ℕ → ℤ = λ n. pos (indicated n) *ℤ g n in
       by-rows (t 0) (t 1) (t 2) (t 3) (t 4) (t 5) (t 6) (t 7) (t 8)
-      ∙ ap₂ _+ℤ_ (ap₂ _+ℤ_ (line-centre left right k (g 3) (g 4) (g 5)) (line-times left right above (g 0) (g 1) (g 2))) (line-times left right below (g 6) (g 7) (g 8))
+      ∙ ap₂ _+ℤ_
+      (ap₂ _+ℤ_ (weightedRow-centre left right k (g 3) (g 4) (g 5)) (weightedRow-times left right above (g 0) (g 1) (g 2)))
+      (weightedRow-times left right below (g 6) (g 7) (g 8))
 
-  indicated-weight : weightSum indicated 9 ≡ left + 1 + right + above * (left + 1 + right) + below * (left + 1 + right) + k
+  indicated-weight : weightSum indicated 9 ≡ windowWeight left right above below (k + 1)
   indicated-weight = omega arith
 
 -- the rows above, of and below row y
@@ -56,7 +58,7 @@ module _ (y w : ℕ) where
   row-below : (y + 2 - 1) * w ≡ y * w + w
   row-below = let e : y + 2 - 1 ≡ suc y = omega arith in ap (λ (n : ℕ). n * w) e ∙ suc-mul y w
 
-module _ {w h x y left right above below : ℕ} (s : Surroundings w h x y left right above below) (k : ℕ) (a : List ℤ) where
+module _ {w h x y left right above below : ℕ} (s : Neighbourhood w h x y left right above below) (k : ℕ) (a : List ℤ) where
   abbrev g : ℕ → ℤ
   g = windowSample w a (y * w + x)
 
@@ -64,8 +66,8 @@ module _ {w h x y left right above below : ℕ} (s : Surroundings w h x y left r
   i = y * w + x
 
   -- the row whose centre is at b + x
-  line-row : (b : ℕ) → line left right (at a (b + (x + 0 - 1))) (at a (b + (x + 1 - 1))) (at a (b + (x + 2 - 1))) ≡ rowSum a (b + x) left right
-  line-row b =
+  weightedRow-is : (b : ℕ) → weightedRow left right (at a (b + (x + 0 - 1))) (at a (b + (x + 1 - 1))) (at a (b + (x + 2 - 1))) ≡ rowSum a (b + x) left right
+  weightedRow-is b =
       let e : b + (x + 1 - 1) ≡ b + x = omega arith in
       ap₂ _+ℤ_
       (ap₂ _+ℤ_ (times-same left (at a (b + (x + 0 - 1))) (at a (b + x - left)) (s .on-left .most) before) (ap (at a) e))
@@ -77,43 +79,30 @@ module _ {w h x y left right above below : ℕ} (s : Surroundings w h x y left r
       after : 1 ≤ right → at a (b + (x + 2 - 1)) ≡ at a (b + x + right)
       after o = let m = s .on-right .most in let e : b + (x + 2 - 1) ≡ b + x + right = omega arith in ap (at a) e
 
-  own-row : line left right (g 3) (g 4) (g 5) ≡ rowSum a i left right
-  own-row =
-      let s3 = window-sample k s 3 a in
-      let s4 = window-sample k s 4 a in
-      let s5 = window-sample k s 5 a in
-      let e : (y + 1 - 1) * w + x ≡ i = ap (λ (n : ℕ). n + x) (row-own y w) in
-      let z = line-row ((y + 1 - 1) * w) in
-      cc
+  row-is : (b : ℕ) {c : ℕ} {u v z : ℤ} → u ≡ at a (b + (x + 0 - 1)) → v ≡ at a (b + (x + 1 - 1)) → z ≡ at a (b + (x + 2 - 1)) → b + x ≡ c → weightedRow left right u v z ≡ rowSum a c left right
+  row-is b p q r e = let l = weightedRow-is b in cc
 
-  above-row : 1 ≤ above → line left right (g 0) (g 1) (g 2) ≡ rowSum a (i - above * w) left right
+  own-row : weightedRow left right (g 3) (g 4) (g 5) ≡ rowSum a i left right
+  own-row = row-is ((y + 1 - 1) * w) (window-sample k s 3 a) (window-sample k s 4 a) (window-sample k s 5 a) (omega (arith, row-own y w))
+
+  above-row : 1 ≤ above → weightedRow left right (g 0) (g 1) (g 2) ≡ rowSum a (i - above * w) left right
   above-row o =
-      let p = s .on-top .on o in
-      let s0 = window-sample k s 0 a in
-      let s1 = window-sample k s 1 a in
-      let s2 = window-sample k s 2 a in
       let m : above ≡ 1 = omega (arith, s .on-top .most) in
       let f = ap (λ (n : ℕ). n * w) m in
-      let e : (y + 0 - 1) * w + x ≡ i - above * w = omega (arith, row-above y w p) in
-      let z = line-row ((y + 0 - 1) * w) in
-      cc
+      row-is ((y + 0 - 1) * w) (window-sample k s 0 a) (window-sample k s 1 a) (window-sample k s 2 a) (omega (arith, row-above y w (s .on-top .on o)))
 
-  below-row : 1 ≤ below → line left right (g 6) (g 7) (g 8) ≡ rowSum a (i + below * w) left right
+  below-row : 1 ≤ below → weightedRow left right (g 6) (g 7) (g 8) ≡ rowSum a (i + below * w) left right
   below-row o =
-      let s6 = window-sample k s 6 a in
-      let s7 = window-sample k s 7 a in
-      let s8 = window-sample k s 8 a in
       let m : below ≡ 1 = omega (arith, s .at-bottom .most) in
       let f = ap (λ (n : ℕ). n * w) m in
-      let e : (y + 2 - 1) * w + x ≡ i + below * w = omega (arith, row-below y w) in
-      let z = line-row ((y + 2 - 1) * w) in
-      cc
+      row-is ((y + 2 - 1) * w) (window-sample k s 6 a) (window-sample k s 7 a) (window-sample k s 8 a) (omega (arith, row-below y w))
 
   centre-sample : g 4 ≡ at a i
   centre-sample = let e : (y + 1 - 1) * w + (x + 1 - 1) ≡ i = omega (arith, row-own y w) in window-sample k s 4 a ∙ ap (at a) e
 
   abbrev rows : ℤ
-  rows = rowSum a i left right +ℤ pos k *ℤ at a i +ℤ pos above *ℤ rowSum a (i - above * w) left right +ℤ pos below *ℤ rowSum a (i + below * w) left right
+  rows = rowSum a i left right +ℤ pos k *ℤ at a i
+      +ℤ pos above *ℤ rowSum a (i - above * w) left right +ℤ pos below *ℤ rowSum a (i + below * w) left right
 
   sum-is : weightedSum (weight w h (k + 1) i) g 9 ≡ rows
   sum-is =
@@ -121,49 +110,27 @@ module _ {w h x y left right above below : ℕ} (s : Surroundings w h x y left r
       ∙ indicated-sum left right above below k g
       ∙ ap₂ _+ℤ_
       (ap₂ _+ℤ_ (ap₂ _+ℤ_ own-row (ap (λ (z : ℤ). pos k *ℤ z) centre-sample))
-      (times-same above (line left right (g 0) (g 1) (g 2)) (rowSum a (i - above * w) left right) (s .on-top .most) above-row))
-      (times-same below (line left right (g 6) (g 7) (g 8)) (rowSum a (i + below * w) left right) (s .at-bottom .most) below-row)
+      (times-same above (weightedRow left right (g 0) (g 1) (g 2)) (rowSum a (i - above * w) left right) (s .on-top .most) above-row))
+      (times-same below (weightedRow left right (g 6) (g 7) (g 8)) (rowSum a (i + below * w) left right) (s .at-bottom .most) below-row)
 
-  mean-by-rows : {centre : ℕ} → centre ≡ k + 1 → roundedMean rows (left + 1 + right + above * (left + 1 + right) + below * (left + 1 + right) + k) ≡ mean w h centre a i
+  mean-by-rows : {centre : ℕ} → centre ≡ k + 1 → roundedMean rows (windowWeight left right above below centre) ≡ mean w h centre a i
   unfolding mean
   mean-by-rows e =
-      rw e
-      (sym (ap₂ roundedMean sum-is (weightSum-same (weight w h (k + 1) i) (indicated left right above below k) g 9 (window-weight (k + 1) s) ∙ indicated-weight left right above below k)))
+      let same = weightSum-same (weight w h (k + 1) i) (indicated left right above below k) g 9 (window-weight (k + 1) s) in
+      rw e (sym (ap₂ roundedMean sum-is (same ∙ indicated-weight left right above below k)))
 
 -- ---- the interior
 interior-sum : (w k i : ℕ) (a : List ℤ) → rowSum a i 1 1 +ℤ pos k *ℤ at a i +ℤ pos 1 *ℤ rowSum a (i - 1 * w) 1 1 +ℤ pos 1 *ℤ rowSum a (i + 1 * w) 1 1 ≡ neighbourSum w a i +ℤ pos (k + 1) *ℤ at a i
 interior-sum w k i a = let e : 1 * w ≡ w = omega arith in rw e (eq-lin (simp flat (simp count (omega arith))))
 
-pub interior-window : (w centre n : ℕ) (a : List ℤ) → 1 ≤ centre → interiorMean w centre a n ≡ windowMean w 1 1 1 1 centre a n
-unfolding interiorMean windowMean
-interior-window w centre n a l =
+pub interior-window : (w centre i : ℕ) (a : List ℤ) → 1 ≤ centre → roundedMean (neighbourSum w a i +ℤ pos centre *ℤ at a i) (8 + centre) ≡ windowMean w 1 1 1 1 centre a i
+unfolding windowMean
+interior-window w centre i a l =
     let e : centre - 1 + 1 ≡ centre = omega arith in
-    let m : 8 + centre ≡ 1 + 1 + 1 + 1 * (1 + 1 + 1) + 1 * (1 + 1 + 1) + (centre - 1) = omega arith in
-    ap₂ roundedMean (sym (rw e at (interior-sum w (centre - 1) n a))) m
+    let m : 8 + centre ≡ (1 + 1 + 1) * (1 + 1 + 1) + (centre - 1) = omega arith in
+    ap₂ roundedMean (sym (rw e at (interior-sum w (centre - 1) i a))) m
 
--- ---- the window's indices and weights
-pub times-below : (b n m : ℕ) → b ≤ 1 → (1 ≤ b → n ≤ m) → b * n ≤ m
-times-below zero n m l f = omega arith
-times-below (suc b) n m l f = let e : suc b ≡ 1 = omega arith in rw e (omega (arith, f (omega arith)))
-
-module _ {w h x y left right above below : ℕ} (s : Surroundings w h x y left right above below) {i : ℕ} (e : i ≡ y * w + x) where
-  pub window-in : {n : ℕ} → n ≡ w * h → WindowIn w n i left right above below
-  window-in f =
-      let a = times-below left 1 x (s .on-left .most) (s .on-left .on) in
-      let b = times-below right 1 (w - x - 1) (s .on-right .most) (λ o. let p = s .on-right .on o in omega arith) in
-      let c = times-below above w (y * w) (s .on-top .most) (λ o. let p = mul-le-mul-right w (s .on-top .on o) in omega arith) in
-      let d = times-below below w (w * h - y * w - w) (s .at-bottom .most) (λ o. let p = mul-le-mul-right w (s .at-bottom .on o) in let q = add-mul y 2 w in omega arith) in
-      let g = mul-le-mul-right w (s .row) in
-      let v = s .column in
-      record {
-        most-left = s .on-left .most;
-        most-right = s .on-right .most;
-        most-above = s .on-top .most;
-        most-below = s .at-bottom .most;
-        first = omega arith;
-        last = omega arith;
-      }
-
-  pub window-mean : (centre : ℕ) (a : List ℤ) → 1 ≤ centre → windowMean w left right above below centre a i ≡ mean w h centre a i
-  unfolding windowMean
-  window-mean centre a l = rw e (mean-by-rows s (centre - 1) a (omega arith))
+-- ---- any sample
+pub window-mean : {w h x y left right above below i : ℕ} → Neighbourhood w h x y left right above below → i ≡ y * w + x → (centre : ℕ) (a : List ℤ) → 1 ≤ centre → windowMean w left right above below centre a i ≡ mean w h centre a i
+unfolding windowMean
+window-mean s e centre a l = rw e (mean-by-rows s (centre - 1) a (omega arith))

@@ -1,6 +1,5 @@
 pub mod Quarters
-pub mod LastPass
-pub mod Part
+pub mod Segments
 pub mod Reciprocals
 pub mod Offsets
 pub mod Windows

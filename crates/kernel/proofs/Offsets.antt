@@ -14,8 +14,7 @@ use Rattle.integers.proofs.Ranges.{nonneg-holds, nonneg-is, in-fits}
 use Rattle.integers.proofs.Linear.{flat, count, eq-lin, in-lin, fits-lin, lin-in}
 use Rattle.stage.specs.Filter.{roundedMean}
 use Rattle.stage.proofs.Means.{roundedMean-in}
-use Rattle.kernel.specs.Part.{ValueIn}
-use Rattle.kernel.specs.Window.{Offset}
+use Rattle.kernel.specs.Window.{ValueIn, Offset}
 use Rattle.kernel.proofs.Means.{mean-beside}
 
 -- one sample
@@ -45,18 +44,22 @@ pub offset-add : {t u m n : ℕ} {x y : ℤ} → Offset t x m → Offset u y n �
 offset-add {t} {u} {m} {n} {x} {y} p q =
     record { is = ap₂ _+ℤ_ (p .is) (q .is) ∙ eq-lin (simp flat (simp count (omega arith))); most = omega arith }
 
-pub offset-times : {m : ℕ} {z : ℤ} (k : ℕ) → Offset 1 z m → Offset k (pos k *ℤ z) (k * m)
-offset-times {m} {z} k p = record {
+pub offset-times : {t m : ℕ} {z : ℤ} (k : ℕ) → Offset t z m → Offset (k * t) (pos k *ℤ z) (k * m)
+offset-times {t} {m} {z} k p = record {
   is = ap (λ (x : ℤ). pos k *ℤ x) (p .is) ∙ eq-lin (simp flat (simp count (omega arith)));
   most = let h = mul-le-mul-left k (p .most) in omega arith;
 }
 
 -- what is absent has weight 0, what is present its own
-pub offset-absent : {b t : ℕ} (z : ℤ) → b ≡ 0 → t ≡ 0 → Offset t (pos b *ℤ z) 0
-offset-absent {b} {t} z e f = rw (e, f) (record { is = eq-lin (simp flat (simp count (omega arith))); most = omega arith })
+pub offset-absent : {b : ℕ} (t : ℕ) (z : ℤ) → b ≡ 0 → Offset (b * t) (pos b *ℤ z) 0
+offset-absent t z e = rw e (record { is = eq-lin (simp flat (simp count (omega arith))); most = omega arith })
 
-pub offset-present : {b t u n : ℕ} {z : ℤ} → b ≡ 1 → t ≡ u → Offset u z n → Offset t (pos b *ℤ z) n
-offset-present {b} {t} {u} {n} {z} e f p = rw (e, f) (record { is = p .is ∙ eq-lin (simp flat (simp count (omega arith))); most = omega arith })
+pub offset-present : {b t n : ℕ} {z : ℤ} → b ≡ 1 → Offset t z n → Offset (b * t) (pos b *ℤ z) n
+offset-present {b} {t} {n} {z} e p = rw e (record { is = p .is ∙ eq-lin (simp flat (simp count (omega arith))); most = omega arith })
+
+-- the same weight otherwise written
+pub offset-as : {t u m : ℕ} {z : ℤ} → t ≡ u → Offset t z m → Offset u z m
+offset-as e p = rw e at p
 
 -- the mean of samples whose weights add up to t
 pub record OffsetMean (t : ℕ) (z : ℤ) (q : ℕ) : Type 0 where

@@ -9,7 +9,7 @@ use lib.Dec.{T, eqb, leb, eqb→eq, leb→le}
 use lib.ListN.{getD}
 use Rattle.integers.proofs.Booleans.{and-iff}
 use Rattle.stage.specs.Filter.{centreWeights}
-use Rattle.kernel.specs.Centre.{Reciprocal}
+use Rattle.kernel.specs.Centre.{ReciprocalDivision}
 
 -- With m d = p + e and n = q d + r: n m = q p + (q e + m r), and d (q e + m r) = n e + r p < (r + 1) p ≤ d p. So n m / p = q.
 module _ (d m p e n q r : ℕ) (product : m * d ≡ p + e) (division : n ≡ q * d + r) (small : r < d) (slight : n * e < p) where
@@ -27,12 +27,13 @@ module _ (d m p e n q r : ℕ) (product : m * d ≡ p + e) (division : n ≡ q *
       let c = rest-below in
       div-eq-of-lt-le p (omega arith) (omega arith)
 
--- eighths of n / d
-pub eighths-divide : {d m : ℕ} (n : ℕ) → Reciprocal d m → n * d < 2 ^ 35 → n * m / 2 ^ 32 / 8 ≡ n / d
-eighths-divide {d} {m} n r h =
+-- n / d in fixed point with three fraction bits
+pub fixed-quotient : {d m : ℕ} (n : ℕ) → ReciprocalDivision n d m → n * m / 2 ^ 32 / 8 ≡ n / d
+fixed-quotient {d} {m} n h =
     let p = 2 ^ 35 in
     let e = m * d - p in
-    let slight : n * e < p = let b : e ≤ d = omega (arith, r .most) in let a = mul-le-mul-left n b in omega arith in
+    let r = h .divisor in
+    let slight : n * e < p = let b : e ≤ d = omega (arith, r .most) in let a = mul-le-mul-left n b in omega (arith, h .dividend) in
     div-div-eq-div-mul (n * m) (2 ^ 32) 8
     ∙ quotient d m p e n (n / d) (n % d) (omega (arith, r .least)) (sym (div-add-mod' n d)) (mod-lt n (r .positive)) slight
 

@@ -6,7 +6,6 @@ use mathlib.Core.List.{List}
 use Prim.Native.Nat.{ℕ, zero, suc, _+_, _*_, _-_, _/_, _%_, _≤_, _<_}
 use native.Mathlib.Omega.{arith}
 use native.Mathlib.Decide.{decLt}
-use native.Mathlib.Nat.{mul-le-mul-right}
 use borrow.Author.Tests.{lt-leb, le-leb, eq-eqb, ne-eqb}
 use lib.Arith.{digits-div, digits-mod}
 use lib.Dec.{leb, eqb}
@@ -14,10 +13,7 @@ use lib.ListN.{getD}
 use lib.IntN.{ℤ, _+ℤ_}
 use Rattle.integers.specs.Lists.{at}
 use Rattle.stage.specs.Filter.{weight, weightSum, weightedSum, windowSample, mean, centreWeights, filtered}
-use Rattle.kernel.specs.Window.{windowless, Indicator}
-
-pub index-below : (x y w h : ℕ) → x < w → y < h → y * w + x < w * h
-index-below x y w h p q = omega (arith, mul-le-mul-right w q)
+use Rattle.kernel.specs.Window.{pointwise, Indicator}
 
 -- e is 1 where column or row p, counted from 1, is one of n, and else 0
 record Present (p n e : ℕ) : Type 0 where
@@ -35,16 +31,16 @@ present-test {p} {n} {e} h = go (decLt 0 e) (decLt 0 p) (decLt n p)
     go (no s) (yes t) (no u) = absurd (s (h .off t (omega arith)))
 
 -- the three columns or rows about x: before is 1 where there is one below x, after where there is one above
-abbrev pub about : ℕ → ℕ → ℕ → ℕ
-about before after zero = before
-about before after (suc zero) = 1
-about before after (suc (suc j)) = after
+abbrev pub indicatorAt : ℕ → ℕ → ℕ → ℕ
+indicatorAt before after zero = before
+indicatorAt before after (suc zero) = 1
+indicatorAt before after (suc (suc j)) = after
 
-about-present : (x n before after j : ℕ) → Indicator 0 x before → Indicator (x + 1) n after → x < n → j < 3 → Present (x + j) n (about before after j)
-about-present x n before after zero p q l h =
+indicator-present : (x n before after j : ℕ) → Indicator 0 x before → Indicator (x + 1) n after → x < n → j < 3 → Present (x + j) n (indicatorAt before after j)
+indicator-present x n before after zero p q l h =
     record { most = p .most; on = λ o. let i = p .on o in (omega arith, omega arith); off = λ i k. p .off (omega arith) }
-about-present x n before after (suc zero) p q l h = record { most = omega arith; on = λ o. (omega arith, omega arith); off = λ i k. omega arith }
-about-present x n before after (suc (suc j)) p q l h =
+indicator-present x n before after (suc zero) p q l h = record { most = omega arith; on = λ o. (omega arith, omega arith); off = λ i k. omega arith }
+indicator-present x n before after (suc (suc j)) p q l h =
     record { most = q .most; on = λ o. let i = q .on o in (omega arith, omega arith); off = λ i k. q .off (omega arith) }
 
 weight-product : (a b c d : Bool) (v : ℕ) → cond (a && b && c && d) v 0 ≡ cond (a && b) 1 0 * (cond (c && d) 1 0 * v)
@@ -54,8 +50,8 @@ weight-product true true false d v = omega arith
 weight-product true false c d v = omega arith
 weight-product false b c d v = omega arith
 
--- the indicators of a sample's columns and rows
-pub record Surroundings (w h x y left right above below : ℕ) : Type 0 where
+-- column x and row y, and which columns and rows beside them there are
+pub record Neighbourhood (w h x y left right above below : ℕ) : Type 0 where
   pub column : x < w
   pub row : y < h
   pub on-left : Indicator 0 x left
@@ -63,12 +59,12 @@ pub record Surroundings (w h x y left right above below : ℕ) : Type 0 where
   pub on-top : Indicator 0 y above
   pub at-bottom : Indicator (y + 1) h below
 
-module _ {w h x y left right above below : ℕ} (centre : ℕ) (s : Surroundings w h x y left right above below) (k : ℕ) where
-  pub window-weight : k < 9 → weight w h centre (y * w + x) k ≡ about above below (k / 3) * (about left right (k % 3) * cond (eqb k 4) centre 1)
+module _ {w h x y left right above below : ℕ} (centre : ℕ) (s : Neighbourhood w h x y left right above below) (k : ℕ) where
+  pub window-weight : k < 9 → weight w h centre (y * w + x) k ≡ indicatorAt above below (k / 3) * (indicatorAt left right (k % 3) * cond (eqb k 4) centre 1)
   window-weight l =
       let v = cond (eqb k 4) centre 1 in
-      let p = about-present x w left right (k % 3) (s .on-left) (s .on-right) (s .column) (omega arith) in
-      let q = about-present y h above below (k / 3) (s .on-top) (s .at-bottom) (s .row) (omega arith) in
+      let p = indicator-present x w left right (k % 3) (s .on-left) (s .on-right) (s .column) (omega arith) in
+      let q = indicator-present y h above below (k / 3) (s .on-top) (s .at-bottom) (s .row) (omega arith) in
       rw (digits-div y (s .column), digits-mod y (s .column))
       (weight-product (leb 1 (y + k / 3)) (leb (y + k / 3) h) (leb 1 (x + k % 3)) (leb (x + k % 3) w) v
       ∙ ap₂ (λ (m n : ℕ). m * (n * v)) (present-test q) (present-test p))
@@ -88,27 +84,11 @@ module _ (f g : ℕ → ℕ) (s : ℕ → ℤ) where
 
 -- ---- the thirteen filters
 module _ (w h filter : ℕ) (a : List ℤ) (i : ℕ) where
-  pub filtered-windowless : filter ≡ 0 ⊎ filter ≡ 12 → windowless filter a i ≡ filtered w h filter a i
-  unfolding windowless filtered
-  filtered-windowless (inl e) = simp (eq-eqb filter 0 e)
-  filtered-windowless (inr e) = simp (ne-eqb filter 0 (λ z. omega arith), eq-eqb filter 12 e)
+  pub filtered-pointwise : filter ≡ 0 ⊎ filter ≡ 12 → pointwise filter a i ≡ filtered w h filter a i
+  unfolding pointwise filtered
+  filtered-pointwise (inl e) = simp (eq-eqb filter 0 e)
+  filtered-pointwise (inr e) = simp (ne-eqb filter 0 (λ z. omega arith), eq-eqb filter 12 e)
 
-  pub filtered-mean : (filter ≡ 0 ⊎ filter ≡ 12 → ⊥) → mean w h (getD centreWeights (filter - 1) 0) a i ≡ filtered w h filter a i
+  pub filtered-mean : 1 ≤ filter → filter ≤ 11 → mean w h (getD centreWeights (filter - 1) 0) a i ≡ filtered w h filter a i
   unfolding filtered
-  filtered-mean n = simp (ne-eqb filter 0 (λ e. n (inl e)), ne-eqb filter 12 (λ e. n (inr e)))
-
--- a filter with a window has an entry in the tables
-pub record Entry (filter : ℕ) : Type 0 where
-  pub least : 1 ≤ filter
-  pub most : filter ≤ 11
-
-pub entry : (filter : ℕ) → filter ≤ 12 → (filter ≡ 0 ⊎ filter ≡ 12 → ⊥) → Entry filter
-entry filter h n = record { least = go (decLt 0 filter); most = end (decLt filter 12) }
-  where
-    go : Dec (0 < filter) → 1 ≤ filter
-    go (yes l) = l
-    go (no l) = absurd (n (inl (omega arith)))
-
-    end : Dec (filter < 12) → filter ≤ 11
-    end (yes l) = omega arith
-    end (no l) = absurd (n (inr (omega arith)))
+  filtered-mean l m = simp (ne-eqb filter 0 (λ e. omega arith), ne-eqb filter 12 (λ e. omega arith))

@@ -1,4 +1,4 @@
 pub mod Pass
-pub mod Part
 pub mod Centre
 pub mod Window
+pub mod Lifting

@@ -5,8 +5,49 @@ use mathlib.Core.List.{List}
 use Prim.Native.Nat.{ℕ, _+_, _-_, _*_, _≤_, _<_}
 use lib.Dec.{eqb}
 use lib.IntN.{ℤ, pos, _+ℤ_, _*ℤ_}
-use Rattle.integers.specs.Lists.{at}
+use lib.ListN.{length}
+use Rattle.integers.specs.Parts.{In}
+use Rattle.integers.specs.Lists.{at, AllIn}
 use Rattle.stage.specs.Filter.{roundedMean}
+use Rattle.kernel.specs.Centre.{CentreWeight}
+use Rattle.kernel.specs.declared.centre.Centre.{Centre}
+
+-- The windows of indices i to j − 1 lie in a plane of width w and n samples: left, right, above and below are 1 where there is such a
+-- column or row, and else 0.
+pub record WindowsIn (w left right above below i j n : ℕ) : Type 0 where
+  pub most-left : left ≤ 1
+  pub most-right : right ≤ 1
+  pub most-above : above ≤ 1
+  pub most-below : below ≤ 1
+  pub first : above * w + left ≤ i
+  pub last : j + below * w + right ≤ n
+
+-- in plane a
+pub record Windows (w left right above below i j : ℕ) (a : List ℤ) : Type 0 where
+  pub inside : WindowsIn w left right above below i j (length a)
+  pub samples : AllIn 524288 524288 a
+
+-- and they have a mean
+pub record MeanWindows (centre : Centre) (w left right above below i j : ℕ) (a : List ℤ) : Type 0 where
+  pub windows : Windows w left right above below i j a
+  pub weights : CentreWeight centre
+
+-- a window of one row, and of one sample
+abbrev pub RowWindow : ℕ → ℕ → ℕ → List ℤ → Type 0
+RowWindow left right i a = Windows 0 left right 0 0 i (i + 1) a
+
+abbrev pub SampleWindow : ℕ → List ℤ → Type 0
+SampleWindow i a = RowWindow 0 0 i a
+
+-- where present is 1 a window is read, where it is 0 nothing
+pub record Optional (present : ℕ) (window : Type 0) : Type 0 where
+  pub most : present ≤ 1
+  pub read : window
+
+-- a result r: the number z, and its range
+pub record ValueIn (bound : ℕ) (z r : ℤ) : Type 0 where
+  pub is : r ≡ z
+  pub range : In bound bound r
 
 -- a sum z of samples whose weights add up to n, each offset by 2^19: r is not negative
 pub record Offset (n : ℕ) (z : ℤ) (r : ℕ) : Type 0 where
@@ -21,13 +62,9 @@ threeSum a i = at a (i - 1) +ℤ at a i +ℤ at a (i + 1)
 abbrev pub neighbourSum : ℕ → List ℤ → ℕ → ℤ
 neighbourSum w a i = threeSum a (i - w) +ℤ at a (i - 1) +ℤ at a (i + 1) +ℤ threeSum a (i + w)
 
--- the mean there, for a centre weight
-unfoldable pub interiorMean : ℕ → ℕ → List ℤ → ℕ → ℤ
-interiorMean w centre a i = roundedMean (neighbourSum w a i +ℤ pos centre *ℤ at a i) (8 + centre)
-
--- the filters that touch no window: 0 gives the sample itself, 12 gives 0
-unfoldable pub windowless : ℕ → List ℤ → ℕ → ℤ
-windowless filter a i = cond (eqb filter 0) (at a i) (pos 0)
+-- the filters that need one sample only: 0 gives the sample itself, 12 gives 0
+unfoldable pub pointwise : ℕ → List ℤ → ℕ → ℤ
+pointwise filter a i = cond (eqb filter 0) (at a i) (pos 0)
 
 -- r is 1 where n < m, and else 0
 pub record Indicator (n m r : ℕ) : Type 0 where
@@ -35,22 +72,21 @@ pub record Indicator (n m r : ℕ) : Type 0 where
   pub on : 1 ≤ r → n < m
   pub off : n < m → 1 ≤ r
 
--- a row of the window with centre i: left and right are 1 where there is such a column, and else 0
+-- a row of the window with centre i
 abbrev pub rowSum : List ℤ → ℕ → ℕ → ℕ → ℤ
 rowSum a i left right = pos left *ℤ at a (i - left) +ℤ at a i +ℤ pos right *ℤ at a (i + right)
 
--- the window of index i lies in a plane of n samples and width w: above and below are 1 where there is such a row, and else 0
-pub record WindowIn (w n i left right above below : ℕ) : Type 0 where
-  pub most-left : left ≤ 1
-  pub most-right : right ≤ 1
-  pub most-above : above ≤ 1
-  pub most-below : below ≤ 1
-  pub first : above * w + left ≤ i
-  pub last : i + below * w + right < n
+-- the sum of the window's weights, for a centre weight, its weighted sum, and its mean
+abbrev pub windowWeight : ℕ → ℕ → ℕ → ℕ → ℕ → ℕ
+windowWeight left right above below centre = (above + 1 + below) * (left + 1 + right) + (centre - 1)
 
--- its mean, for a centre weight
+abbrev pub windowSum : ℕ → ℕ → ℕ → ℕ → ℕ → ℕ → List ℤ → ℕ → ℤ
+windowSum w left right above below centre a i =
+    rowSum a i left right
+    +ℤ pos (centre - 1) *ℤ at a i
+    +ℤ pos above *ℤ rowSum a (i - above * w) left right
+    +ℤ pos below *ℤ rowSum a (i + below * w) left right
+
 unfoldable pub windowMean : ℕ → ℕ → ℕ → ℕ → ℕ → ℕ → List ℤ → ℕ → ℤ
 windowMean w left right above below centre a i =
-    roundedMean
-    (rowSum a i left right +ℤ pos (centre - 1) *ℤ at a i +ℤ pos above *ℤ rowSum a (i - above * w) left right +ℤ pos below *ℤ rowSum a (i + below * w) left right)
-    (left + 1 + right + above * (left + 1 + right) + below * (left + 1 + right) + (centre - 1))
+    roundedMean (windowSum w left right above below centre a i) (windowWeight left right above below centre)

@@ -1,9 +1,7 @@
 // The centre weights of filters 1 to 11, and a division by the full window's weight that is a product.
 ghost use mathlib.Core.Path.{_≡_};
-ghost use Prim.Native.Nat.{_<_, _≤_, _*_, _/_, _^_};
-ghost use lib.ListN.{getD};
-ghost use Rattle.stage.specs.Filter.{centreWeights};
-ghost use Rattle.kernel.specs.Centre.{Reciprocal, CentreWeight};
+ghost use Prim.Native.Nat.{_<_, _≤_, _/_};
+ghost use Rattle.kernel.specs.Centre.{Reciprocal, CentreEntry, ReciprocalDivision};
 
 // A filter's centre weight, 2^23 / weight, and the reciprocal of the full window's weight.
 pub struct Centre {
@@ -13,7 +11,7 @@ pub struct Centre {
 }
 
 // Indexed by filter number less one.
-pub const CENTRE_WEIGHTS: [u32; 11] = [1, 2, 4, 8, 16, 32, 64, 128, 256, 512, 1024];
+const CENTRE_WEIGHTS: [u32; 11] = [1, 2, 4, 8, 16, 32, 64, 128, 256, 512, 1024];
 
 // The least whole number above 2^35 / d.
 fn reciprocal_of(d: u32) -> u32
@@ -25,7 +23,7 @@ fn reciprocal_of(d: u32) -> u32
 
 pub fn centre_at(entry: usize) -> Centre
     requires { ⌜ entry < 11 ⌝ }
-    ensures { λ r. ⌜ CentreWeight (r .weight) (r .offset) (r .reciprocal) × (r .weight ≡ getD centreWeights entry 0) ⌝ }
+    ensures { λ r. ⌜ CentreEntry entry r ⌝ }
 {
     let weight = CENTRE_WEIGHTS[entry];
     Centre {
@@ -35,9 +33,9 @@ pub fn centre_at(entry: usize) -> Centre
     }
 }
 
-// n divided by d, in eighths, without a division
-pub fn eighths(n: u32, d: u32, reciprocal: u32) -> u32
-    requires { ⌜ Reciprocal d reciprocal × (n * d < 2 ^ 35) ⌝ }
+// n / d in fixed point with three fraction bits, without a division
+pub fn fixed_quotient(n: u32, d: u32, reciprocal: u32) -> u32
+    requires { ⌜ ReciprocalDivision n d reciprocal ⌝ }
     ensures { λ r. ⌜ r / 8 ≡ n / d ⌝ }
 {
     (((n as u64) * (reciprocal as u64)) >> 32) as u32

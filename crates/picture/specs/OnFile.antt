@@ -1,13 +1,14 @@
 -- A picture on file (01, "Pixmaps and the report"): "its width, height, depth and lent raster, one record that holds the reference".
 use mathlib.Core.Path.{_≡_}
 use mathlib.Core.List.{List}
-use Prim.Native.Nat.{ℕ, _+_, _-_}
+use Prim.Native.Nat.{ℕ}
 use lib.IntN.{ℤ}
-use lib.ListN.{length, drop}
+use lib.ListN.{drop}
 use denote.Ref.{RefT, now}
 use Rattle.integers.specs.Lists.{at}
 use Rattle.stage.specs.Answers.{Reply, done, refused}
 use Rattle.stage.specs.Pixmap.{Header, headerOf, rasterOf, everyThird}
+use Rattle.pixmap.specs.Parts.{PartOf}
 use Rattle.picture.specs.declared.Numbers.{Numbers}
 use Rattle.picture.specs.declared.Picture.{Picture}
 
@@ -23,5 +24,4 @@ sampleOf raster offset index = at (everyThird (drop offset raster)) index
 -- the record of a file: its raster is the lent file's last bytes, in the caller's own memory
 pub record PictureOf (file : RefT (List ℕ)) (p : Picture) : Type 0 where
   pub numbers-are : record { width = p .width; height = p .height; depth = p .depth } ≡ numbersOf (headerOf (now file))
-  pub raster-is : now (p .raster) ≡ rasterOf (now file)
-  pub lent : p .raster .ptr ≡ (file .ptr .0, (length (now file) - length (now (p .raster))) + file .ptr .1)
+  pub raster-is : PartOf file (rasterOf (now file)) (p .raster)

@@ -28,9 +28,9 @@ fn header_numbers(file: &[u8]) -> Numbers
             height,
             depth,
         } => Numbers {
-            width,
-            height,
-            depth,
+            width: width,
+            height: height,
+            depth: depth,
         },
         Header::Refused(_) => Numbers {
             width: 0,

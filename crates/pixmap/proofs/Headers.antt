@@ -7,7 +7,8 @@ use lib.Dec.{eqb}
 use lib.ListN.{drop}
 use borrow.Author.Tests.{eqb-true, eq-eqb}
 use Rattle.integers.proofs.Booleans.{both-true}
-use Rattle.stage.specs.Pixmap.{isWhite, isDigit, first, afterStretch, decimal, afterDigits, field, headerText}
+use Rattle.stage.specs.Decimal.{isDigit, decimal, afterDigits}
+use Rattle.stage.specs.Pixmap.{isWhite, first, afterStretch, field, headerText}
 use Rattle.stage.specs.Grammar.{IsField, IsHeader}
 use Rattle.pixmap.specs.Agreement.{HeadersAgree}
 use Rattle.pixmap.proofs.Stretches.{white-no-digit, nothing-white, white-step, stretch-read, stretch-of}

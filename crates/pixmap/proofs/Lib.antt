@@ -1,11 +1,11 @@
-pub mod Places
+pub mod HeaderFields
 pub mod Depths
 pub mod Refusals
 pub mod Rasters
-pub mod Scans
+pub mod Parsing
 pub mod Filling
 pub mod Stretches
 pub mod Numbers
 pub mod Headers
+pub mod RefusedFiles
 pub mod Agreement
-pub mod Cases

@@ -6,9 +6,10 @@ use Prim.Native.Nat.{ℕ, suc, _+_, _-_, _*_, _^_}
 use native.Mathlib.Nat.{pow-suc}
 use native.Mathlib.Omega.{arith}
 use lib.ListN.{length}
-use Rattle.stage.specs.Pixmap.{isDigit, first, decimal, afterDigits}
+use Rattle.stage.specs.Decimal.{isDigit, decimal, afterDigits}
+use Rattle.stage.specs.Pixmap.{first}
 use Rattle.stage.specs.Grammar.{Number, last, more}
-use Rattle.pixmap.proofs.Places.{no-digit, decimal-more, digits-more, decimal-ends, digits-end}
+use Rattle.text.proofs.Numbers.{no-digit, decimal-more, digits-more, decimal-ends, digits-end}
 
 -- ---- from the grammar to the reader
 pub number-front : {l : List ℕ} {v : ℕ} (r : List ℕ) → Number l v → isDigit (first (l ++ r)) ≡ true

@@ -7,49 +7,28 @@ use native.Mathlib.Nat.{mul-le-mul}
 use native.Mathlib.Omega.{arith}
 use lib.Dec.{leb, eqb}
 use lib.ListN.{length}
-use borrow.Author.Tests.{leb-true, leb-false, lt-leb, eqb-true}
-use Rattle.integers.proofs.Booleans.{true-holds, and-false}
-use Rattle.stage.specs.Answers.{Reply, done, refused, Test, _else_, refusal, answer, number, between, sized}
+use borrow.Author.Tests.{not-true, leb-true, leb-false, lt-leb, eqb-true, eqb-false}
+use Rattle.integers.proofs.Booleans.{holds-true, true-holds, and-false}
+use Rattle.stage.specs.Answers.{Reply, done, refused, Test, _else_, refusal, replyBy, answer, number, between, sized}
 use Rattle.stage.specs.Pixmap.{HeaderText, depthOf, headerTests, pixmapTests, Header}
-use Rattle.stage.proofs.Answers.{sized-iff}
-use Rattle.pixmap.specs.Scans.{replyBy}
+use Rattle.stage.proofs.Answers.{Holds, refusal-holds, sized-iff}
 
--- ---- the four tests
-abbrev pub four : Bool → Bool → Bool → Bool → List Test
-four g s k l = (g else 1) ∷ (s else 2) ∷ (k else 3) ∷ (l else 4) ∷ []
+-- ---- a text that no test refuses
+module _ (t : HeaderText) (e : refusal (pixmapTests t) ≡ 0) where
+  all-hold : Holds (pixmapTests t)
+  all-hold = refusal-holds (pixmapTests t) (tt, (tt, (tt, (tt, tt)))) e
 
-module _ (g s k l : Bool) where
-  pub first-1 : g ≡ false → 1 ≡ refusal (four g s k l)
-  first-1 a = rw a
+  pub is-formed : t .formed ≡ true
+  is-formed = holds-true (t .formed) (all-hold .0)
 
-  pub first-2 : g ≡ true → s ≡ false → 2 ≡ refusal (four g s k l)
-  first-2 a b = rw (a, b)
+  pub is-sized : sized (t .width) (t .height) ≡ true
+  is-sized = holds-true (sized (t .width) (t .height)) (all-hold .1 .0)
 
-  pub first-3 : g ≡ true → s ≡ true → k ≡ false → 3 ≡ refusal (four g s k l)
-  first-3 a b c = rw (a, b, c)
+  pub has-depth : depthOf (t .maxval) ≡ 0 → ⊥
+  has-depth = eqb-false (depthOf (t .maxval)) 0 (not-true (eqb (depthOf (t .maxval)) 0) (holds-true (not (eqb (depthOf (t .maxval)) 0)) (all-hold .1 .1 .0)))
 
-  pub first-4 : g ≡ true → s ≡ true → k ≡ true → l ≡ false → 4 ≡ refusal (four g s k l)
-  first-4 a b c d = rw (a, b, c, d)
-
-  pub first-0 : g ≡ true → s ≡ true → k ≡ true → l ≡ true → 0 ≡ refusal (four g s k l)
-  first-0 a b c d = rw (a, b, c, d)
-
--- where no test fails
-pub record Passed (g s k l : Bool) : Type 0 where
-  pub formed : g ≡ true
-  pub size : s ≡ true
-  pub known : k ≡ true
-  pub long : l ≡ true
-
-passed : (g s k l : Bool) → refusal (four g s k l) ≡ 0 → Passed g s k l
-passed true true true true h = record { formed = refl; size = refl; known = refl; long = refl }
-passed true true true false h = absurd (omega arith)
-passed true true false l h = absurd (omega arith)
-passed true false k l h = absurd (omega arith)
-passed false s k l h = absurd (omega arith)
-
-pub text-passed : (t : HeaderText) → refusal (pixmapTests t) ≡ 0 → Passed (t .formed) (sized (t .width) (t .height)) (not (eqb (depthOf (t .maxval)) 0)) (eqb (length (t .rest)) (3 * t .width * t .height))
-text-passed t = passed (t .formed) (sized (t .width) (t .height)) (not (eqb (depthOf (t .maxval)) 0)) (eqb (length (t .rest)) (3 * t .width * t .height))
+  pub is-long : length (t .rest) ≡ 3 * t .width * t .height
+  is-long = eqb-true (length (t .rest)) (3 * t .width * t .height) (holds-true (eqb (length (t .rest)) (3 * t .width * t .height)) (all-hold .1 .1 .1 .0))
 
 -- ---- an answer is the first refusal, or the value
 number-by : {A : Type 0} (n : ℕ) (v : A) (t : Bool) → eqb n 0 ≡ t → number {A = A} (cond t (done v) (refused n)) ≡ n
@@ -96,14 +75,14 @@ module _ (g k : Bool) (d p n : ℕ) where
   abbrev reply : ℕ → ℕ → Reply Header
   reply w h = answer (headerTests g w h k p n) (record { width = w; height = h; depth = d })
 
-  outside : (g s l : Bool) (v : Header) → s ≡ false → answer (four g s k l) v ≡ cond g (refused 2) (refused 1)
+  outside : (g s : Bool) (l : List Test) (v : Header) → s ≡ false → answer ((g else 1) ∷ (s else 2) ∷ l) v ≡ cond g (refused 2) (refused 1)
   outside true s l v e = rw e
   outside false s l v e = refl
 
   refused-alike : (v u w h : ℕ) → sized v u ≡ false → sized w h ≡ false → reply v u ≡ reply w h
   refused-alike v u w h a b =
-      outside g (sized v u) (eqb n (p * v * u)) (record { width = v; height = u; depth = d }) a
-      ∙ sym (outside g (sized w h) (eqb n (p * w * h)) (record { width = w; height = h; depth = d }) b)
+      outside g (sized v u) ((k else 3) ∷ (eqb n (p * v * u) else 4) ∷ []) (record { width = v; height = u; depth = d }) a
+      ∙ sym (outside g (sized w h) ((k else 3) ∷ (eqb n (p * w * h) else 4) ∷ []) (record { width = w; height = h; depth = d }) b)
 
   kept-by : (w h : ℕ) (s t : Bool) → leb w 100000 ≡ s → leb h 100000 ≡ t → reply (min w 100000) (min h 100000) ≡ reply w h
   kept-by w h true true a b =

@@ -7,9 +7,11 @@ use native.Mathlib.Omega.{arith}
 use lib.Dec.{leb, eqb}
 use borrow.Author.Tests.{leb-true, leb-false, eqb-true, ne-eqb, lt-leb}
 use Rattle.integers.proofs.Booleans.{and-false}
-use Rattle.stage.specs.Pixmap.{isWhite, isDigit, endsComment, first, endsStretch, staysInside, afterStretch}
+use Rattle.stage.specs.Decimal.{isDigit}
+use Rattle.stage.specs.Pixmap.{isWhite, endsComment, first, endsStretch, staysInside, afterStretch}
 use Rattle.stage.specs.Grammar.{CommentText, end, byte, Stretch, none, white, comment}
-use Rattle.pixmap.proofs.Places.{digit-low, no-digit, stretch-ends, stretch-goes, stretch-nil}
+use Rattle.text.proofs.Numbers.{digit-low, no-digit}
+use Rattle.pixmap.proofs.HeaderFields.{stretch-ends, stretch-goes, stretch-nil}
 
 -- ---- bytes
 above-white : (b : ℕ) → 32 < b → isWhite b ≡ false

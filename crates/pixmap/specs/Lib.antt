@@ -1,5 +1,5 @@
 pub mod Replies
-pub mod Places
-pub mod Scans
+pub mod Parts
+pub mod HeaderFields
+pub mod Parsed
 pub mod Agreement
-pub mod Cases

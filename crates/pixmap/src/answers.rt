@@ -1,13 +1,5 @@
-// What the reader's calls answer.
-
 // Width, height and depth of a pixmap, or a refusal's number.
 pub enum Header {
     Picture { width: u32, height: u32, depth: u32 },
-    Refused(u32),
-}
-
-// Whether the lent planes were filled, or a refusal's number.
-pub enum Filled {
-    Done,
     Refused(u32),
 }

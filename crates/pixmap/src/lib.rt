@@ -1,22 +1,22 @@
 // A reader of portable pixmaps: the header of any bytes, the raster as a part of the lent file, and its three planes.
 mod answers;
-mod text;
+mod header_text;
 
-pub use answers::Filled;
 pub use answers::Header;
 ghost use mathlib.Core.Path.{_≡_};
-ghost use Prim.Native.Nat.{_+_, _-_, _*_, _≤_};
-ghost use lib.ListN.{length, drop};
+ghost use Prim.Native.Nat.{_≤_};
+ghost use lib.ListN.{drop};
 ghost use lib.IntN.{pos};
-ghost use Rattle.stage.specs.Answers.{sized, refusal};
+ghost use Rattle.stage.specs.Answers.{refusal, outcomeOf};
 ghost use Rattle.stage.specs.Planes.{triple};
-ghost use Rattle.stage.specs.Transform.{allEqual};
 ghost use Rattle.stage.specs.Pixmap.{depthOf, headerTests, headerOf, rasterOf, everyThird, planesOf};
-ghost use Rattle.pixmap.specs.Replies.{headerReply, filledOutcome};
-ghost use Rattle.pixmap.specs.Scans.{ScanOf};
+ghost use Rattle.pixmap.specs.Replies.{headerReply};
+ghost use Rattle.pixmap.specs.Parts.{PartOf, Fills};
+ghost use Rattle.pixmap.specs.Parsed.{ParsedOf};
+use stage::Answer;
 
 // A file's first refusal, or 0; its header's numbers; and the place of the header's last byte.
-struct Scan {
+struct Parsed {
     refusal: u32,
     width: u32,
     height: u32,
@@ -38,12 +38,6 @@ fn depth_of(maxval: u32) -> u32
     0
 }
 
-fn is_sized(width: u32, height: u32) -> bool
-    ensures { λ r. ⌜ r ≡ sized width height ⌝ }
-{
-    ((1 <= width) & (width <= 8192)) & ((1 <= height) & (height <= 8192))
-}
-
 // The first test that fails, or 0, for pixels of `pixel` bytes.
 fn first_refusal(
     formed: bool,
@@ -59,7 +53,7 @@ fn first_refusal(
     if !formed {
         return 1;
     }
-    if !is_sized(width, height) {
+    if !stage::is_sized(width, height) {
         return 2;
     }
     if !known {
@@ -71,18 +65,18 @@ fn first_refusal(
     0
 }
 
-fn read_file(file: &[u8]) -> Scan
-    ensures { λ r. ⌜ ScanOf (now (file .entry)) r ⌝ }
+fn parse(file: &[u8]) -> Parsed
+    ensures { λ r. ⌜ ParsedOf (now (file .entry)) r ⌝ }
 {
-    let t = text::read_text(file, 54);
-    let depth = depth_of(t.maxval);
-    let rest = text::part_behind(file, t.at);
-    Scan {
-        refusal: first_refusal(t.formed, t.width, t.height, depth != 0, 3, rest.len()),
-        width: t.width,
-        height: t.height,
+    let f = header_text::read_fields(file, 54);
+    let depth = depth_of(f.maxval);
+    let rest = header_text::part_behind(file, f.at);
+    Parsed {
+        refusal: first_refusal(f.formed, f.width, f.height, depth != 0, 3, rest.len()),
+        width: f.width,
+        height: f.height,
         depth: depth,
-        at: t.at,
+        at: f.at,
     }
 }
 
@@ -90,28 +84,27 @@ fn read_file(file: &[u8]) -> Scan
 pub fn header(file: &[u8]) -> Header
     ensures { λ r. ⌜ headerReply r ≡ headerOf (now (file .entry)) ⌝ }
 {
-    let s = read_file(file);
-    if s.refusal != 0 {
-        return Header::Refused(s.refusal);
+    let p = parse(file);
+    if p.refusal != 0 {
+        return Header::Refused(p.refusal);
     }
     Header::Picture {
-        width: s.width,
-        height: s.height,
-        depth: s.depth,
+        width: p.width,
+        height: p.height,
+        depth: p.depth,
     }
 }
 
 // The raster itself, the last bytes of the lent file; empty where the header is refused.
 pub fn raster(file: &[u8]) -> &[u8]
-    ensures { λ r. ⌜ now r ≡ rasterOf (now (file .entry)) ⌝ }
-    ensures { λ r. ⌜ r .ptr ≡ (file .entry .ptr .0, (length (now (file .entry)) - length (now r)) + file .entry .ptr .1) ⌝ }
+    ensures { λ r. ⌜ PartOf (file .entry) (rasterOf (now (file .entry))) r ⌝ }
 {
-    let s = read_file(file);
-    if s.refusal != 0 {
+    let p = parse(file);
+    if p.refusal != 0 {
         let n = file.len();
         return &file[n..];
     }
-    text::part_behind(file, s.at)
+    header_text::part_behind(file, p.at)
 }
 
 fn sample(b: u8) -> i32
@@ -122,7 +115,7 @@ fn sample(b: u8) -> i32
 
 // A plane becomes every third byte of the raster.
 fn fill(plane: &mut [i32], raster: &[u8], offset: usize)
-    requires { ⌜ (length (now raster) ≡ 3 * length (now plane)) × (offset ≤ 2) ⌝ }
+    requires { ⌜ Fills (now plane) (now raster) offset ⌝ }
     ensures { λ _. ⌜ now (plane .exit) ≡ everyThird (drop offset (now (raster .entry))) ⌝ }
 {
     let mut i = 0;
@@ -132,28 +125,21 @@ fn fill(plane: &mut [i32], raster: &[u8], offset: usize)
     }
 }
 
-// Whether three lengths are n.
-fn are_long(n: usize, n1: usize, n2: usize, n3: usize) -> bool
-    ensures { λ r. ⌜ r ≡ allEqual n (triple n1 n2 n3) ⌝ }
-{
-    (n1 == n) & ((n2 == n) & (n3 == n))
-}
-
 // The three planes of a pixmap. A refusal leaves them as they were lent.
-pub fn planes(file: &[u8], c1: &mut [i32], c2: &mut [i32], c3: &mut [i32]) -> Filled
-    ensures { λ r. ⌜ filledOutcome r (now (c1 .exit)) (now (c2 .exit)) (now (c3 .exit)) ≡ planesOf (now (file .entry)) (record { c1 = now (c1 .entry); c2 = now (c2 .entry); c3 = now (c3 .entry) }) ⌝ }
+pub fn planes(file: &[u8], c1: &mut [i32], c2: &mut [i32], c3: &mut [i32]) -> Answer
+    ensures { λ r. ⌜ outcomeOf r (triple (now (c1 .exit)) (now (c2 .exit)) (now (c3 .exit))) ≡ planesOf (now (file .entry)) (triple (now (c1 .entry)) (now (c2 .entry)) (now (c3 .entry))) ⌝ }
 {
-    let s = read_file(file);
-    if s.refusal != 0 {
-        return Filled::Refused(s.refusal);
+    let p = parse(file);
+    if p.refusal != 0 {
+        return Answer::Refused(p.refusal);
     }
-    let n = s.width as usize * s.height as usize;
-    if !are_long(n, c1.len(), c2.len(), c3.len()) {
-        return Filled::Refused(8);
+    let n = p.width as usize * p.height as usize;
+    if !stage::all_equal(n, c1.len(), c2.len(), c3.len()) {
+        return Answer::Refused(8);
     }
-    let rest = text::part_behind(file, s.at);
+    let rest = header_text::part_behind(file, p.at);
     fill(c1, rest, 0);
     fill(c2, rest, 1);
     fill(c3, rest, 2);
-    Filled::Done
+    Answer::Done
 }

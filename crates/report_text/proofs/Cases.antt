@@ -1,7 +1,8 @@
 -- The definitions compute to the texts.
 use mathlib.Core.Path.{refl}
-use Rattle.stage.specs.Pixmap.{isWhite, isDigit, endsStretch, staysInside, afterStretch, decimal, afterDigits, field, headerText, depthAmong, headerOf, rasterOf}
-use Rattle.report_text.specs.Text.{digits, numeral, separated, line, refusalLine}
+use Rattle.stage.specs.Decimal.{isDigit, decimal, afterDigits, digits, numeral}
+use Rattle.stage.specs.Pixmap.{isWhite, endsStretch, staysInside, afterStretch, field, headerText, depthAmong, headerOf, rasterOf}
+use Rattle.report_text.specs.Text.{separated, line, refusalLine}
 use Rattle.report_text.specs.Report.{reportOf}
 use Rattle.report_text.specs.Cases.{TextsAgree}
 

@@ -1,6 +1,4 @@
-pub mod Written
-pub mod Numerals
-pub mod Lines
+pub mod Filters
 pub mod Replies
 pub mod Pictures
 pub mod Reports

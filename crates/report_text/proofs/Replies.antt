@@ -5,19 +5,20 @@ use mathlib.Core.List.{List, [], _∷_, _++_}
 use Prim.Native.Nat.{ℕ}
 use native.Mathlib.Omega.{arith}
 use lib.Dec.{eqb}
-use lib.ListN.{length, replicate}
+use lib.ListN.{replicate}
 use borrow.Author.Tests.{eq-eqb, ne-eqb}
-use Rattle.stage.specs.Answers.{Reply, done, refused, _else_, refusal, Outcome, between}
+use Rattle.stage.specs.declared.Settings.{Settings}
+use Rattle.stage.specs.Answers.{Reply, done, refused, _else_, refusal, replyBy, Outcome}
+use Rattle.stage.specs.Settings.{settingsOf}
 use Rattle.stage.specs.Planes.{Planes}
 use Rattle.stage.specs.Steps.{steps, places}
-use Rattle.stage.specs.Transform.{lengths, isPicture}
+use Rattle.stage.specs.Transform.{isPicture}
 use Rattle.stage.specs.Pixmap.{Header}
-use Rattle.stage.specs.Search.{Estimated, Lent, scratchSettings, estimated, winners, searchCall}
-use Rattle.pixmap.specs.Scans.{replyBy}
-use Rattle.estimate.specs.declared.Estimated as code
-use Rattle.estimate.specs.declared.Estimated.the-variants.{Done, Refused}
+use Rattle.stage.specs.Search.{Estimated, Lent, estimated, winners, searchTests, searchCall}
+use Rattle.search.specs.declared.Estimated as code
+use Rattle.search.specs.declared.Estimated.the-variants.{Done, Refused}
 use Rattle.report_text.specs.declared.searches.Found.{Found}
-use Rattle.estimate.specs.Calls.{replyOf, left}
+use Rattle.search.specs.Calls.{replyOf, outcomeOf}
 use Rattle.report_text.specs.Text.{line, title, rct, ycocgR, rdgdb, ldgeb, refusalLine}
 use Rattle.report_text.specs.Report.{lent, searchOf, lineBy, both, lines, printed}
 use Rattle.report_text.specs.Found.{found, foundEstimate, FoundBy, firstOf}
@@ -27,25 +28,24 @@ not-zero : {A : Type 0} (n m : ℕ) (v : A) (b : Bool) → eqb m 0 ≡ b → ref
 not-zero n m v true e h = let z : _≡_ {A = ℕ} 0 1 = cc in absurd (omega arith)
 not-zero n m v false e h = let s : n ≡ m = cc in rw s e
 
-search-refused : (w h b t : ℕ) (p : Planes) (k : ℕ) (m : Lent) (n : ℕ) → refused n ≡ searchCall w h b t p k m .reply → eqb n 0 ≡ false
+search-refused : (s : Settings) (p : Planes) (k : ℕ) (m : Lent) (n : ℕ) → refused n ≡ searchCall s p k m .reply → eqb n 0 ≡ false
 unfolding searchCall
-search-refused w h b t p k m n e =
-    let s = m .scratch in
-    let tests = refusal (scratchSettings w h b t (eqb (length (m .choices)) (places (steps t))) (lengths p) (lengths (s .trials)) (length (s .counters)) ++ (between 1 4 k else 10) ∷ (isPicture b p else 11) ∷ []) in
-    not-zero n tests (estimated w h b t p (winners w h b t p k)) (eqb tests 0) refl e
+search-refused s p k m n e =
+    let first = refusal (searchTests s p k m ++ (isPicture s p else 11) ∷ []) in
+    not-zero n first (estimated s p (winners s p k)) (eqb first 0) refl e
 
 module _ (h : Header) (p : Planes) (t : ℕ) where
   abbrev call : List ℕ → Outcome Estimated Lent
-  call φ = searchCall (h .width) (h .height) (h .depth) t p 2 (lent φ)
+  call φ = searchCall (settingsOf (h .width) (h .height) (h .depth) t) p 2 (lent φ)
 
   reply-by : (φ : List ℕ) (a : code.Estimated) → replyOf a ≡ call φ .reply → call φ .reply ≡ replyBy (found a .refusal) (foundEstimate (found a))
   reply-by φ (Done e n) q = sym q
-  reply-by φ (Refused n) q = sym q ∙ sym (ap (λ b. cond b (done (record { estimate = 0; samples = 0 })) (refused n)) (search-refused (h .width) (h .height) (h .depth) t p 2 (lent φ) n q))
+  reply-by φ (Refused n) q = sym q ∙ sym (ap (λ b. cond b (done (record { estimate = 0; samples = 0 })) (refused n)) (search-refused (settingsOf (h .width) (h .height) (h .depth) t) p 2 (lent φ) n q))
 
-  pub found-by : (a : code.Estimated) (φ : List ℕ) (m : Lent) {r : Found} → φ ≡ replicate (places (steps t)) 0 → left a m ≡ call φ → r ≡ found a → FoundBy (searchOf h p t) (m .choices) r
+  pub found-by : (a : code.Estimated) (φ : List ℕ) (m : Lent) {r : Found} → φ ≡ replicate (places (steps t)) 0 → outcomeOf a m ≡ call φ → r ≡ found a → FoundBy (searchOf h p t) (m .choices) r
   unfolding searchOf
   found-by a φ m {r} z q e =
-      let c : searchOf h p t ≡ left a m = ap call (sym z) ∙ sym q in
+      let c : searchOf h p t ≡ outcomeOf a m = ap call (sym z) ∙ sym q in
       let f : FoundBy (searchOf h p t) (m .choices) (found a) =
       record { reply-is = ap (λ x. call x .reply) (sym z) ∙ reply-by φ a (ap (λ o. o .reply) q); choices-are = ap (λ o. o .memory .choices) (sym c) }
       in

@@ -3,14 +3,15 @@ use mathlib.Core.Path.{_≡_, sym, ap, _∙_}
 use mathlib.Core.List.{List, _++_}
 use Prim.Native.Nat.{ℕ, zero, suc, _-_, _≤_, _<_}
 use native.Mathlib.Omega.{arith}
-use lib.ListN.{length, take, drop, replicate, length-append, length-replicate}
-use lib.Seq.{sets-eq, length-take-le}
+use lib.ListN.{length, take, drop, replicate, length-append, length-take, length-replicate}
+use lib.Seq.{length-take-le}
 use borrow.Author.Tests.{lt-ltb, le-ltb}
 use Rattle.stage.specs.Answers.{done, refused}
 use Rattle.stage.specs.Pixmap.{Header, headerOf, rasterOf, rasterPlanes}
-use Rattle.report_text.specs.Text.{refusalLine, Wrote}
+use Rattle.text.proofs.Written.{written-parts}
+use Rattle.report_text.specs.Text.{refusalLine}
 use Rattle.report_text.specs.declared.Output.{Output}
-use Rattle.report_text.specs.Promises.{OutputIs}
+use Rattle.report_text.specs.Promises.{ReportAt, OutputIs, Printed}
 use Rattle.report_text.specs.Report.{lines, printed, linesBy, reportOf}
 
 module _ (file : List ℕ) where
@@ -31,14 +32,17 @@ drop-replicate zero m a = let e : m - 0 ≡ m = omega arith in rw e
 drop-replicate (suc n) zero a = let e : 0 - suc n ≡ 0 = omega arith in rw e
 drop-replicate (suc n) (suc m) a = let e : suc m - suc n ≡ m - n = omega arith in rw e (drop-replicate n m a)
 
+-- the same report, otherwise written
+pub report-as : {a p q b : List ℕ} {n : ℕ} → p ≡ q → ReportAt a p b n → ReportAt a q b n
+report-as {a} {p} {q} {b} {n} e w = rw e at w
+
 -- what was written at the front of zeros
-pub output-is : (report : List ℕ) (r : Output) → Wrote (replicate 256 0) 0 report (r .text) (r .length) → r .length ≤ 256 → OutputIs report r
-output-is report r w h =
-    let zeros : List ℕ = replicate 256 0 in
+pub output-is : (report : List ℕ) (r : Output) → ReportAt (replicate 256 0) report (r .text) (r .length) → OutputIs report r
+output-is report r w =
     record {
-      text-is = w .text-is ∙ sets-eq report zeros 0 (omega (arith, w .end-is, length-replicate {A = ℕ} 256 0)) ∙ ap (λ n. report ++ drop n zeros) (sym (w .end-is)) ∙ ap (λ l. report ++ l) (drop-replicate (r .length) 256 0);
-      length-is = omega (arith, w .end-is);
-      fits = h;
+      text-is = written-parts (w .written) (omega (arith, w .fits, length-replicate {A = ℕ} 256 0)) ∙ ap (λ l. report ++ l) (drop-replicate (r .length) 256 0);
+      length-is = omega (arith, w .written .end-is);
+      fits = w .fits;
     }
 
 -- the report's bytes are a part of the text
@@ -47,3 +51,7 @@ output-within {report} {r} o = omega (arith, o .length-is, simp length-append at
 
 pub output-count : {report : List ℕ} {r : Output} → OutputIs report r → r .length ≡ length (take (r .length) (r .text))
 output-count {report} {r} o = sym (length-take-le (r .length) (r .text) (output-within o))
+
+-- the report on what was read, the first n bytes of a buffer
+pub printed-part : (n : ℕ) (l : List ℕ) {r : Output} → n ≤ 8193 → OutputIs (reportOf (take n l)) r → Printed r
+printed-part n l h o = record { file = take n l; short = simp length-take (omega arith); output-is = o }

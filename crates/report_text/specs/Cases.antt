@@ -2,26 +2,20 @@
 use mathlib.Core.Path.{_≡_}
 use mathlib.Core.List.{List, [], _∷_}
 use Prim.Native.Nat.{ℕ}
-use Rattle.report_text.specs.Text.{numeral, line, rct, refusalLine}
+use Rattle.report_text.specs.Text.{line, rct, refusalLine}
 use Rattle.report_text.specs.Report.{reportOf}
 
 abbrev given : List (List ℕ)
 given =
-    numeral 0
-    ∷ numeral 1785
-    ∷ line rct (0 ∷ 12 ∷ 0 ∷ 0 ∷ []) (record { estimate = 256; samples = 2 })
+    line rct (0 ∷ 12 ∷ 0 ∷ 0 ∷ []) (record { estimate = 256; samples = 2 })
     ∷ refusalLine 11
     ∷ reportOf []
     ∷ []
 
 abbrev wanted : List (List ℕ)
 wanted =
-    -- 0
-    (48 ∷ [])
-    -- 1785
-    ∷ (49 ∷ 55 ∷ 56 ∷ 53 ∷ [])
     -- RCT 0,12,0,0 256 2
-    ∷ (82 ∷ 67 ∷ 84 ∷ 32 ∷ 48 ∷ 44 ∷ 49 ∷ 50 ∷ 44 ∷ 48 ∷ 44 ∷ 48 ∷ 32 ∷ 50 ∷ 53 ∷ 54 ∷ 32 ∷ 50 ∷ 10 ∷ [])
+    (82 ∷ 67 ∷ 84 ∷ 32 ∷ 48 ∷ 44 ∷ 49 ∷ 50 ∷ 44 ∷ 48 ∷ 44 ∷ 48 ∷ 32 ∷ 50 ∷ 53 ∷ 54 ∷ 32 ∷ 50 ∷ 10 ∷ [])
     -- refused 11
     ∷ (114 ∷ 101 ∷ 102 ∷ 117 ∷ 115 ∷ 101 ∷ 100 ∷ 32 ∷ 49 ∷ 49 ∷ 10 ∷ [])
     -- refused 1

@@ -4,11 +4,10 @@ use mathlib.Core.Bool.{cond}
 use mathlib.Core.List.{List}
 use Prim.Native.Nat.{ℕ}
 use lib.Dec.{eqb}
-use Rattle.stage.specs.Answers.{Outcome}
+use Rattle.stage.specs.Answers.{replyBy, Outcome}
 use Rattle.stage.specs.Search.{Estimated, Lent}
-use Rattle.pixmap.specs.Scans.{replyBy}
-use Rattle.estimate.specs.declared.Estimated as code
-use Rattle.estimate.specs.declared.Estimated.the-variants.{Done, Refused}
+use Rattle.search.specs.declared.Estimated as code
+use Rattle.search.specs.declared.Estimated.the-variants.{Done, Refused}
 use Rattle.report_text.specs.declared.searches.Found.{Found}
 
 -- an answer, with refusal 0 for none

@@ -1,21 +1,8 @@
--- Numbers and lines as text: lists of ASCII codes (01, "Pixmaps and the report").
-use mathlib.Core.Path.{_≡_}
-use mathlib.Core.Bool.{cond}
+-- The report's lines as text: lists of ASCII codes (01, "Pixmaps and the report").
 use mathlib.Core.List.{List, [], _∷_, _++_}
-use Prim.Native.Nat.{ℕ, zero, suc, _+_, _/_, _%_}
-use lib.Dec.{ltb}
-use lib.ListN.{length}
-use lib.Seq.{sets}
+use Prim.Native.Nat.{ℕ}
+use Rattle.stage.specs.Decimal.{numeral}
 use Rattle.stage.specs.Search.{Estimated}
-
--- the decimal digits of n, at most k + 1 of them: those of n / 10, then n % 10
-unfoldable pub digits : ℕ → ℕ → List ℕ
-digits zero n = (48 + n) ∷ []
-digits (suc k) n = cond (ltb n 10) ((48 + n) ∷ []) (digits k (n / 10) ++ (48 + n % 10) ∷ [])
-
--- all of them: n has at most n + 1 digits
-unfoldable pub numeral : ℕ → List ℕ
-numeral n = digits n n
 
 -- numbers, the first behind the byte s, the others each behind a comma [44]
 unfoldable pub separated : ℕ → List ℕ → List ℕ
@@ -48,8 +35,3 @@ ldgeb = 76 ∷ 68 ∷ 103 ∷ 69 ∷ 98 ∷ []
 -- "Any refusal prints only `refused`, a blank and its number", and a line feed
 unfoldable pub refusalLine : ℕ → List ℕ
 refusalLine n = (114 ∷ 101 ∷ 102 ∷ 117 ∷ 115 ∷ 101 ∷ 100 ∷ []) ++ (32 ∷ numeral n) ++ 10 ∷ []
-
--- Text in which a piece was written at a place: the piece stands there, all else is as before; and the place behind it.
-pub record Wrote (before : List ℕ) (at : ℕ) (piece after : List ℕ) (end : ℕ) : Type 0 where
-  pub text-is : after ≡ sets before at piece
-  pub end-is : end ≡ at + length piece

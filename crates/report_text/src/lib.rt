@@ -1,20 +1,20 @@
 // The text that the report program prints (01, "Pixmaps and the report").
+mod lines;
 mod pixmaps;
 mod searches;
-mod text;
 
 ghost use Prim.Native.Nat.{_≤_};
-ghost use Rattle.report_text.specs.Text.{Wrote};
+ghost use lib.ListN.{length};
 ghost use Rattle.report_text.specs.Report.{reportOf};
-ghost use Rattle.report_text.specs.Promises.{OutputIs};
+ghost use Rattle.report_text.specs.Promises.{ReportAt, OutputIs, Printed};
 use libc::STDOUT_FILENO;
+use lines::put_refusal;
 use pixmap::Header;
 use pixmaps::put_pixmap;
-use text::put_refusal;
 
-fn put_report(text: &mut [u8; 256], file: &[u8]) -> usize
-    ensures { λ r. ⌜ Wrote (now (text .entry)) 0 (reportOf (now (file .entry))) (now (text .exit)) r ⌝ }
-    ensures { λ r. ⌜ r ≤ 256 ⌝ }
+fn put_report(text: &mut [u8], file: &[u8]) -> usize
+    requires { ⌜ 256 ≤ length (now text) ⌝ }
+    ensures { λ r. ⌜ ReportAt (now (text .entry)) (reportOf (now (file .entry))) (now (text .exit)) r ⌝ }
 {
     if file.len() > 8192 {
         return put_refusal(text, 9);
@@ -47,9 +47,10 @@ pub fn report(file: &[u8]) -> Output
     }
 }
 
-// Prints the report on what a descriptor reads, of which 8,193 bytes are enough to refuse it. Answers the report's length.
-pub fn print_report(input: i32) -> usize
-    ensures { λ r. ⌜ r ≤ 256 ⌝ }
+// Prints the report on what a descriptor reads, of which 8,193 bytes are enough to refuse it. Answers what it hands over to be
+// written.
+pub fn print_report(input: i32) -> Output
+    ensures { λ r. ⌜ Printed r ⌝ }
 {
     let mut buffer = [0u8; 8193];
     let n = io::read_full(input, &mut buffer);
@@ -57,5 +58,5 @@ pub fn print_report(input: i32) -> usize
     let text = r.text;
     let length = r.length;
     io::write_all(STDOUT_FILENO, &text[..length]);
-    length
+    r
 }

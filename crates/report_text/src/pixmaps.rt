@@ -1,26 +1,24 @@
 // The report on a pixmap, written to the front of the text.
 ghost use mathlib.Core.Path.{_≡_};
-ghost use mathlib.Core.Bool.{true};
 ghost use mathlib.Core.List.{_++_};
-ghost use Prim.Native.Nat.{_*_, _≤_};
+ghost use Prim.Native.Nat.{_≤_};
 ghost use lib.ListN.{length};
-ghost use Rattle.stage.specs.Answers.{done};
 ghost use Rattle.stage.specs.Planes.{triple};
-ghost use Rattle.stage.specs.Transform.{allEqual};
-ghost use Rattle.stage.specs.Pixmap.{headerOf, rasterOf, rasterPlanes};
-ghost use Rattle.report_text.specs.Text.{line, title, rct, ycocgR, rdgdb, ldgeb, Wrote};
+ghost use Rattle.stage.specs.Pixmap.{rasterOf, rasterPlanes};
+ghost use Rattle.report_text.specs.Text.{line, title, rct, ycocgR, rdgdb, ldgeb};
 ghost use Rattle.report_text.specs.Report.{pictureText};
 ghost use Rattle.report_text.specs.Found.{foundEstimate};
+ghost use Rattle.report_text.specs.Promises.{ReportAt, ShortPixmap, LentPlanes};
+use crate::lines::put_line;
+use crate::lines::put_refusal;
 use crate::searches::Found;
 use crate::searches::first_of;
 use crate::searches::search_with;
-use crate::text::put_bytes;
-use crate::text::put_line;
-use crate::text::put_refusal;
+use text::put_bytes;
 
 // The header line, and the lines of four searches that no refusal ended.
 fn put_lines(
-    text: &mut [u8; 256],
+    text: &mut [u8],
     f0: &[u8; 4],
     f1: &[u8; 4],
     f2: &[u8; 2],
@@ -30,8 +28,8 @@ fn put_lines(
     s2: Found,
     s3: Found,
 ) -> usize
-    ensures { λ r. ⌜ Wrote (now (text .entry)) 0 (title ++ (line rct (now (f0 .entry)) (foundEstimate s0) ++ line ycocgR (now (f1 .entry)) (foundEstimate s1) ++ line rdgdb (now (f2 .entry)) (foundEstimate s2) ++ line ldgeb (now (f3 .entry)) (foundEstimate s3))) (now (text .exit)) r ⌝ }
-    ensures { λ r. ⌜ r ≤ 256 ⌝ }
+    requires { ⌜ 256 ≤ length (now text) ⌝ }
+    ensures { λ r. ⌜ ReportAt (now (text .entry)) (title ++ (line rct (now (f0 .entry)) (foundEstimate s0) ++ line ycocgR (now (f1 .entry)) (foundEstimate s1) ++ line rdgdb (now (f2 .entry)) (foundEstimate s2) ++ line ldgeb (now (f3 .entry)) (foundEstimate s3))) (now (text .exit)) r ⌝ }
 {
     let a = put_bytes(text, 0, b"transform filters estimate samples\n");
     let b = put_line(text, a, b"RCT", f0, s0.estimate, s0.samples);
@@ -42,7 +40,7 @@ fn put_lines(
 
 // The lines of a picture's four searches, or the first refusal.
 fn put_picture(
-    text: &mut [u8; 256],
+    text: &mut [u8],
     width: u32,
     height: u32,
     depth: u32,
@@ -50,8 +48,8 @@ fn put_picture(
     c2: &[i32],
     c3: &[i32],
 ) -> usize
-    ensures { λ r. ⌜ Wrote (now (text .entry)) 0 (pictureText width height depth (triple (now (c1 .entry)) (now (c2 .entry)) (now (c3 .entry)))) (now (text .exit)) r ⌝ }
-    ensures { λ r. ⌜ r ≤ 256 ⌝ }
+    requires { ⌜ 256 ≤ length (now text) ⌝ }
+    ensures { λ r. ⌜ ReportAt (now (text .entry)) (pictureText width height depth (triple (now (c1 .entry)) (now (c2 .entry)) (now (c3 .entry)))) (now (text .exit)) r ⌝ }
 {
     let mut f0 = [0u8; 4];
     let mut f1 = [0u8; 4];
@@ -73,7 +71,7 @@ fn put_picture(
 
 // The report on a pixmap, whose planes are lent.
 fn put_planes(
-    text: &mut [u8; 256],
+    text: &mut [u8],
     file: &[u8],
     width: u32,
     height: u32,
@@ -82,10 +80,8 @@ fn put_planes(
     c2: &mut [i32],
     c3: &mut [i32],
 ) -> usize
-    requires { ⌜ headerOf (now file) ≡ done (record { width = width; height = height; depth = depth }) ⌝ }
-    requires { ⌜ allEqual (width * height) (triple (length (now c1)) (length (now c2)) (length (now c3))) ≡ true ⌝ }
-    ensures { λ r. ⌜ Wrote (now (text .entry)) 0 (pictureText width height depth (rasterPlanes (rasterOf (now (file .entry))))) (now (text .exit)) r ⌝ }
-    ensures { λ r. ⌜ r ≤ 256 ⌝ }
+    requires { ⌜ LentPlanes (now file) (record { width = width; height = height; depth = depth }) (triple (now c1) (now c2) (now c3)) (now text) ⌝ }
+    ensures { λ r. ⌜ ReportAt (now (text .entry)) (pictureText width height depth (rasterPlanes (rasterOf (now (file .entry))))) (now (text .exit)) r ⌝ }
 {
     pixmap::planes(file, c1, c2, c3);
     put_picture(text, width, height, depth, c1, c2, c3)
@@ -99,11 +95,9 @@ fn new_plane() -> [i32; 2730]
 }
 
 // The report on a pixmap of at most 8,192 bytes.
-pub fn put_pixmap(text: &mut [u8; 256], file: &[u8], width: u32, height: u32, depth: u32) -> usize
-    requires { ⌜ headerOf (now file) ≡ done (record { width = width; height = height; depth = depth }) ⌝ }
-    requires { ⌜ length (now file) ≤ 8192 ⌝ }
-    ensures { λ r. ⌜ Wrote (now (text .entry)) 0 (pictureText width height depth (rasterPlanes (rasterOf (now (file .entry))))) (now (text .exit)) r ⌝ }
-    ensures { λ r. ⌜ r ≤ 256 ⌝ }
+pub fn put_pixmap(text: &mut [u8], file: &[u8], width: u32, height: u32, depth: u32) -> usize
+    requires { ⌜ ShortPixmap (now file) (record { width = width; height = height; depth = depth }) (now text) ⌝ }
+    ensures { λ r. ⌜ ReportAt (now (text .entry)) (pictureText width height depth (rasterPlanes (rasterOf (now (file .entry))))) (now (text .exit)) r ⌝ }
 {
     let mut c1 = new_plane();
     let mut c2 = new_plane();

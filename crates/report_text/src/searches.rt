@@ -5,7 +5,8 @@ ghost use Rattle.stage.specs.Planes.{triple};
 ghost use Rattle.stage.specs.Steps.{steps, places};
 ghost use Rattle.report_text.specs.Report.{searchOf};
 ghost use Rattle.report_text.specs.Found.{found, FoundBy, firstOf};
-use estimate::Estimated;
+use search::Estimated;
+use stage::Settings;
 
 // A refusal's number, or 0 and what the search found.
 pub struct Found {
@@ -49,11 +50,14 @@ pub fn search_with(
     let mut t2 = [0i32; 2048];
     let mut t3 = [0i32; 2048];
     let mut counters = [0u32; 1785];
-    outcome(search::search(
+    let settings = Settings {
         width,
         height,
         depth,
         transform,
+    };
+    outcome(search::search(
+        settings,
         2,
         choices,
         c1,

@@ -1,12 +1,13 @@
--- An inner call promises the outcome of its answer; in an arm of the `match` that answer is known.
+-- An inner call promises the outcome of its answer; what is returned is made of that answer.
 use mathlib.Core.Path.{_≡_, ap, sym, _∙_}
 use Rattle.stage.specs.Answers.{Reply, Outcome}
+use Rattle.rulantip.specs.Returned.{returned}
 
--- of a call that is lent nothing to write
+-- in an arm of the `match` the answer is known
 pub known-reply : {E A R : Type 0} (replyOf : E → Reply A) (return : Reply A → R) {a b : E} {r : Reply A} → replyOf a ≡ r → a ≡ b → return (replyOf b) ≡ return r
 known-reply {E} replyOf return e k = ap (λ (x : E). return (replyOf x)) (sym k) ∙ ap return e
 
 -- of a call that is lent memory m
-module _ {E A M R : Type 0} (replyOf : E → Reply A) (return : Outcome A M → R) where
-  pub known : {a b : E} {m : M} {o : Outcome A M} → record { reply = replyOf a; memory = m } ≡ o → a ≡ b → return (record { reply = replyOf b; memory = m }) ≡ return o
-  known {m} e k = ap (λ (x : E). return (record { reply = replyOf x; memory = m })) (sym k) ∙ ap return e
+pub returned-is : {A M R : Type 0} (return : Reply A → R) {q : Reply A} {r : R} {m : M} {o : Outcome A M} → record { reply = q; memory = m } ≡ o → r ≡ return q
+    → returned r m ≡ returned (return (o .reply)) (o .memory)
+returned-is {A} {M} return {q} {r} {m} e k = ap (λ x. returned x m) k ∙ ap (λ (x : Outcome A M). returned (return (x .reply)) (x .memory)) e

@@ -3,6 +3,8 @@ use Prim.Native.Nat.{ℕ}
 use Rattle.stage.specs.Answers.{Reply, done, refused, Outcome, number}
 use Rattle.stage.specs.Search as search
 use Rattle.stage.specs.Pixmap as pixmap
+use Rattle.search.specs.declared.Estimated.{Estimated}
+use Rattle.search.specs.Calls.{replyOf}
 use Rattle.rulantip.specs.declared.RulantipEstimated.{RulantipEstimated}
 use Rattle.rulantip.specs.declared.RulantipPixmap.{RulantipPixmap}
 
@@ -22,6 +24,9 @@ numbered o = returned (number (o .reply)) (o .memory)
 abbrev pub estimatedBy : Reply search.Estimated → RulantipEstimated
 estimatedBy (done e) = record { refusal = 0; estimate = e .estimate; samples = e .samples }
 estimatedBy (refused n) = record { refusal = n; estimate = 0; samples = 0 }
+
+abbrev pub estimatedOf : Estimated → RulantipEstimated
+estimatedOf r = estimatedBy (replyOf r)
 
 abbrev pub estimatedReturned : {M : Type 0} → Outcome search.Estimated M → Returned RulantipEstimated M
 estimatedReturned o = returned (estimatedBy (o .reply)) (o .memory)

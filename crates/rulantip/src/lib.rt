@@ -1,16 +1,28 @@
-// The library as C, C++ and Rust callers see it; include/rulantip.h declares it. Each function takes the inner call's answer apart.
+// The library as C, C++ and Rust callers see it; include/rulantip.h declares it. Each function makes the inner call's settings and
+// takes its answer apart.
 ghost use mathlib.Core.Path.{_≡_};
+ghost use Rattle.stage.specs.Answers.{number, replyOf};
 ghost use Rattle.stage.specs.Planes.{triple};
+ghost use Rattle.stage.specs.Settings.{settingsOf};
 ghost use Rattle.stage.specs.Transform.{forward, inverse};
 ghost use Rattle.stage.specs.Search.{estimateCall, searchCall};
 ghost use Rattle.stage.specs.Pixmap.{headerOf, planesOf};
-ghost use Rattle.estimate.specs.Calls.{scratchOf};
-ghost use Rattle.search.specs.Calls.{lent};
-ghost use Rattle.rulantip.specs.Returned.{returned, numbered, estimatedReturned, pixmapReturned};
-use estimate::Estimated;
-use pixmap::Filled;
+ghost use Rattle.search.specs.Calls.{scratchOf, lent};
+ghost use Rattle.rulantip.specs.Returned.{returned, numbered, estimatedOf, estimatedReturned, pixmapReturned};
 use pixmap::Header;
-use transform::Answer;
+use search::Estimated;
+use stage::Answer;
+use stage::Settings;
+
+// 0, or the number of a refusal.
+fn number(answer: Answer) -> u32
+    ensures { λ r. ⌜ r ≡ number (replyOf answer) ⌝ }
+{
+    match answer {
+        Answer::Done => 0,
+        Answer::Refused(n) => n,
+    }
+}
 
 #[no_mangle]
 pub extern "C" fn rulantip_forward(
@@ -23,12 +35,15 @@ pub extern "C" fn rulantip_forward(
     c2: &mut [i32],
     c3: &mut [i32],
 ) -> u32
-    ensures { λ r. ⌜ returned r (triple (now (c1 .exit)) (now (c2 .exit)) (now (c3 .exit))) ≡ numbered (forward width height depth transform (now (choices .entry)) (triple (now (c1 .entry)) (now (c2 .entry)) (now (c3 .entry)))) ⌝ }
+    ensures { λ r. ⌜ returned r (triple (now (c1 .exit)) (now (c2 .exit)) (now (c3 .exit))) ≡ numbered (forward (settingsOf width height depth transform) (now (choices .entry)) (triple (now (c1 .entry)) (now (c2 .entry)) (now (c3 .entry)))) ⌝ }
 {
-    match transform::forward(width, height, depth, transform, choices, c1, c2, c3) {
-        Answer::Done => 0,
-        Answer::Refused(n) => n,
-    }
+    let settings = Settings {
+        width,
+        height,
+        depth,
+        transform,
+    };
+    number(transform::forward(settings, choices, c1, c2, c3))
 }
 
 #[no_mangle]
@@ -42,12 +57,15 @@ pub extern "C" fn rulantip_inverse(
     c2: &mut [i32],
     c3: &mut [i32],
 ) -> u32
-    ensures { λ r. ⌜ returned r (triple (now (c1 .exit)) (now (c2 .exit)) (now (c3 .exit))) ≡ numbered (inverse width height depth transform (now (choices .entry)) (triple (now (c1 .entry)) (now (c2 .entry)) (now (c3 .entry)))) ⌝ }
+    ensures { λ r. ⌜ returned r (triple (now (c1 .exit)) (now (c2 .exit)) (now (c3 .exit))) ≡ numbered (inverse (settingsOf width height depth transform) (now (choices .entry)) (triple (now (c1 .entry)) (now (c2 .entry)) (now (c3 .entry)))) ⌝ }
 {
-    match transform::inverse(width, height, depth, transform, choices, c1, c2, c3) {
-        Answer::Done => 0,
-        Answer::Refused(n) => n,
-    }
+    let settings = Settings {
+        width,
+        height,
+        depth,
+        transform,
+    };
+    number(transform::inverse(settings, choices, c1, c2, c3))
 }
 
 #[repr(C)]
@@ -55,6 +73,23 @@ pub struct RulantipEstimated {
     pub refusal: u32,
     pub estimate: u32,
     pub samples: u32,
+}
+
+fn returned(answer: Estimated) -> RulantipEstimated
+    ensures { λ r. ⌜ r ≡ estimatedOf answer ⌝ }
+{
+    match answer {
+        Estimated::Done { estimate, samples } => RulantipEstimated {
+            refusal: 0,
+            estimate,
+            samples,
+        },
+        Estimated::Refused(n) => RulantipEstimated {
+            refusal: n,
+            estimate: 0,
+            samples: 0,
+        },
+    }
 }
 
 #[no_mangle]
@@ -72,33 +107,15 @@ pub extern "C" fn rulantip_estimate(
     t3: &mut [i32],
     counters: &mut [u32],
 ) -> RulantipEstimated
-    ensures { λ r. ⌜ returned r (scratchOf (now (t1 .exit)) (now (t2 .exit)) (now (t3 .exit)) (now (counters .exit))) ≡ estimatedReturned (estimateCall width height depth transform (triple (now (c1 .entry)) (now (c2 .entry)) (now (c3 .entry))) (now (choices .entry)) (scratchOf (now (t1 .entry)) (now (t2 .entry)) (now (t3 .entry)) (now (counters .entry)))) ⌝ }
+    ensures { λ r. ⌜ returned r (scratchOf (triple (now (t1 .exit)) (now (t2 .exit)) (now (t3 .exit))) (now (counters .exit))) ≡ estimatedReturned (estimateCall (settingsOf width height depth transform) (triple (now (c1 .entry)) (now (c2 .entry)) (now (c3 .entry))) (now (choices .entry)) (scratchOf (triple (now (t1 .entry)) (now (t2 .entry)) (now (t3 .entry))) (now (counters .entry)))) ⌝ }
 {
-    match estimate::estimate(
+    let settings = Settings {
         width,
         height,
         depth,
         transform,
-        choices,
-        c1,
-        c2,
-        c3,
-        t1,
-        t2,
-        t3,
-        counters,
-    ) {
-        Estimated::Done { estimate, samples } => RulantipEstimated {
-            refusal: 0,
-            estimate,
-            samples,
-        },
-        Estimated::Refused(n) => RulantipEstimated {
-            refusal: n,
-            estimate: 0,
-            samples: 0,
-        },
-    }
+    };
+    returned(search::estimate(settings, choices, c1, c2, c3, t1, t2, t3, counters))
 }
 
 #[no_mangle]
@@ -117,34 +134,15 @@ pub extern "C" fn rulantip_search(
     t3: &mut [i32],
     counters: &mut [u32],
 ) -> RulantipEstimated
-    ensures { λ r. ⌜ returned r (lent (now (choices .exit)) (now (t1 .exit)) (now (t2 .exit)) (now (t3 .exit)) (now (counters .exit))) ≡ estimatedReturned (searchCall width height depth transform (triple (now (c1 .entry)) (now (c2 .entry)) (now (c3 .entry))) rounds (lent (now (choices .entry)) (now (t1 .entry)) (now (t2 .entry)) (now (t3 .entry)) (now (counters .entry)))) ⌝ }
+    ensures { λ r. ⌜ returned r (lent (now (choices .exit)) (triple (now (t1 .exit)) (now (t2 .exit)) (now (t3 .exit))) (now (counters .exit))) ≡ estimatedReturned (searchCall (settingsOf width height depth transform) (triple (now (c1 .entry)) (now (c2 .entry)) (now (c3 .entry))) rounds (lent (now (choices .entry)) (triple (now (t1 .entry)) (now (t2 .entry)) (now (t3 .entry))) (now (counters .entry)))) ⌝ }
 {
-    match search::search(
+    let settings = Settings {
         width,
         height,
         depth,
         transform,
-        rounds,
-        choices,
-        c1,
-        c2,
-        c3,
-        t1,
-        t2,
-        t3,
-        counters,
-    ) {
-        Estimated::Done { estimate, samples } => RulantipEstimated {
-            refusal: 0,
-            estimate,
-            samples,
-        },
-        Estimated::Refused(n) => RulantipEstimated {
-            refusal: n,
-            estimate: 0,
-            samples: 0,
-        },
-    }
+    };
+    returned(search::search(settings, rounds, choices, c1, c2, c3, t1, t2, t3, counters))
 }
 
 #[repr(C)]
@@ -188,8 +186,5 @@ pub extern "C" fn rulantip_p6_planes(
 ) -> u32
     ensures { λ r. ⌜ returned r (triple (now (c1 .exit)) (now (c2 .exit)) (now (c3 .exit))) ≡ numbered (planesOf (now (file .entry)) (triple (now (c1 .entry)) (now (c2 .entry)) (now (c3 .entry)))) ⌝ }
 {
-    match pixmap::planes(file, c1, c2, c3) {
-        Filled::Done => 0,
-        Filled::Refused(n) => n,
-    }
+    number(pixmap::planes(file, c1, c2, c3))
 }

@@ -1,5 +1,5 @@
 -- Laws of refusals in order: a call succeeds exactly when every test of its list holds. And what the tests of numbers say.
-use mathlib.Core.Path.{_≡_, refl, ap, sym, _∙_}
+use mathlib.Core.Path.{_≡_, refl, ap, ap₂, sym, _∙_}
 use mathlib.Core.Bool.{Bool, true, false, cond}
 use mathlib.Core.Logic.{_↔_}
 use mathlib.Core.List.{List, [], _∷_, _++_}
@@ -43,10 +43,6 @@ refusal-first [] m n e g = absurd (g e)
 refusal-first ((true else k) ∷ l) m n e g = refusal-first l m n e g
 refusal-first ((false else k) ∷ l) m n e g = e
 
--- past the first tests the last decides
-pub refusal-last : (l : List Test) → Numbered l → refusal l ≡ 0 → (b : Bool) (n : ℕ) → refusal (l ++ (b else n) ∷ []) ≡ cond b 0 n
-refusal-last l k e b n = refusal-past l ((b else n) ∷ []) (refusal-holds l k e)
-
 pub holds-append : (l m : List Test) → Holds (l ++ m) ↔ (Holds l × Holds m)
 holds-append [] m = (λ h. (tt, h), λ h. h .1)
 holds-append ((b else n) ∷ l) m = (
@@ -75,6 +71,39 @@ module _ {A M : Type 0} (v : A) (result before : M) where
         (refusal-holds l k z, ap (λ (o : Outcome A M). o .memory) (sym (outcome-done l z) ∙ e)),
     λ h. outcome-done l (holds-refusal l (h .0)) ∙ ap (λ (m : M). record { reply = done v; memory = m }) (h .1),
   )
+
+-- ---- A call makes its first tests, l, whose refusal is n, and then its last one, b: the first that fails decides, and where none
+-- does the call is done.
+numbered-first : (l m : List Test) → Numbered (l ++ m) → Numbered l × Numbered m
+numbered-first [] m k = (tt, k)
+numbered-first ((b else n) ∷ l) m k = let i = numbered-first l m (k .1) in ((k .0, i .0), i .1)
+
+positive : (n : ℕ) → T (ltb 0 n) → n ≡ 0 → ⊥
+positive zero t e = t
+positive (suc n) t e = omega arith
+
+pub record Decides {A M : Type 0} (l : List Test) (b : Bool) (m : ℕ) (v : A) (result before : M) (n : ℕ) : Type 0 where
+  pub first : (n ≡ 0 → ⊥) → record { reply = refused n; memory = before } ≡ outcome (l ++ (b else m) ∷ []) v result before
+  pub passed : n ≡ 0 → Holds l
+  pub last : n ≡ 0 → b ≡ false → record { reply = refused m; memory = before } ≡ outcome (l ++ (b else m) ∷ []) v result before
+  pub succeeds : n ≡ 0 → b ≡ true → (u : A) (after : M) → u ≡ v → after ≡ result
+      → record { reply = done u; memory = after } ≡ outcome (l ++ (b else m) ∷ []) v result before
+
+pub decides : {A M : Type 0} (l : List Test) (b : Bool) (m : ℕ) (v : A) (result before : M) → Numbered (l ++ (b else m) ∷ []) → (n : ℕ) → n ≡ refusal l
+    → Decides l b m v result before n
+decides {A} {M} l b m v result before k n e =
+    let tests = l ++ (b else m) ∷ [] in
+    let ks = numbered-first l ((b else m) ∷ []) k in
+    let holds : n ≡ 0 → Holds l = λ z. refusal-holds l (ks .0) (sym e ∙ z) in
+    let last : n ≡ 0 → refusal tests ≡ cond b 0 m = λ z. refusal-past l ((b else m) ∷ []) (holds z) in
+    record {
+      first = λ g. sym (outcome-refused v result before tests n (refusal-first l ((b else m) ∷ []) n e g) g);
+      passed = holds;
+      last = λ z f. sym (outcome-refused v result before tests m (sym (last z ∙ ap (λ (x : Bool). cond x 0 m) f)) (positive m (ks .1 .0)));
+      succeeds = λ z t u after g h.
+          ap₂ (λ (x : A) (y : M). record { reply = done x; memory = y }) g h
+          ∙ sym (outcome-done v result before tests (last z ∙ ap (λ (x : Bool). cond x 0 m) t));
+    }
 
 -- ---- tests of numbers
 pub between-iff : (low high n : ℕ) → T (between low high n) ↔ ((low ≤ n) × (n ≤ high))

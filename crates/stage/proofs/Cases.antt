@@ -1,28 +1,50 @@
--- 01's ◆ cases and equations hold of the definitions, by computation.
+-- The cases and 01's equations hold of the definitions, by computation.
 use mathlib.Core.Path.{refl}
 use lib.Ieee.{size}
 use Rattle.integers.specs.Lists.{allWithin}
+use Rattle.stage.specs.Decimal.{isDigit, decimal, digitCount, afterDigits, digits, numeral}
 use Rattle.stage.specs.Filter.{filtered, mean}
 use Rattle.stage.specs.Transform.{forward, inverse, transformed, untransformed}
 use Rattle.stage.specs.Logarithm.{L}
-use Rattle.stage.specs.Estimate.{med, total, logSum, estimateOfCounts}
-use Rattle.stage.specs.Search.{winner, round, rounds, searched}
-use Rattle.stage.specs.Cases.{given, said, CasesHold, further, furtherSaid, FurtherHold}
+use Rattle.stage.specs.Estimate.{med, prediction, residual, stride, counted, countedIndex, occurrences, histogram, total, logSum, estimateOfCounts, planeEstimate, pictureEstimate}
+use Rattle.stage.specs.Search.{winner, round, rounds, searched, choicesEstimate, estimateCall, searchCall}
+use Rattle.stage.specs.Pixmap.{isWhite, endsStretch, staysInside, afterStretch, field, headerText, depthAmong, headerOf, rasterOf, everyThird, planesOf}
+use Rattle.stage.specs.Cases.{marked, CasesHold}
+use Rattle.stage.specs.FilterCases.{filterCases, FilterCasesHold}
+use Rattle.stage.specs.TransformCases.{planeCases, limitCases, orderCases, TransformCasesHold}
+use Rattle.stage.specs.SearchCases.{estimateCases, tieCases, scratchCases, EstimateCasesHold, TieCasesHold}
+use Rattle.stage.specs.PixmapCases.{textCases, fileCases, planesCases, PixmapCasesHold}
 use Rattle.stage.specs.Equations.{EquationsHold}
 
 pub cases-hold : CasesHold
-unfolding given said forward inverse transformed untransformed filtered mean allWithin med L size total logSum estimateOfCounts
+unfolding marked forward inverse transformed untransformed filtered mean allWithin med L size total logSum estimateOfCounts
 cases-hold = refl
 
-pub further-hold : FurtherHold
-unfolding further furtherSaid forward inverse transformed untransformed filtered mean allWithin searched rounds round winner
-further-hold = refl
+pub filter-cases-hold : FilterCasesHold
+unfolding filterCases filtered mean med prediction residual stride counted countedIndex occurrences histogram L size total logSum estimateOfCounts planeEstimate
+filter-cases-hold = refl
+
+pub transform-cases-hold : TransformCasesHold
+unfolding planeCases limitCases orderCases forward inverse transformed untransformed filtered mean allWithin
+transform-cases-hold = (refl, refl, refl)
+
+pub tie-cases-hold : TieCasesHold
+unfolding tieCases winner round rounds searched
+tie-cases-hold = refl
+
+pub estimate-cases-hold : EstimateCasesHold
+unfolding estimateCases scratchCases transformed filtered mean allWithin med prediction residual stride counted countedIndex occurrences histogram L size total logSum estimateOfCounts planeEstimate pictureEstimate choicesEstimate estimateCall searchCall
+estimate-cases-hold = (refl, refl)
+
+pub pixmap-cases-hold : PixmapCasesHold
+unfolding textCases fileCases planesCases isDigit decimal digitCount afterDigits digits numeral isWhite endsStretch staysInside afterStretch field headerText depthAmong headerOf rasterOf everyThird planesOf
+pixmap-cases-hold = (refl, refl, refl)
 
 pub equations-hold : EquationsHold
 unfolding transformed untransformed
 equations-hold = (
-  record { there = λ w h φ p. refl; back = λ w h φ q. refl },
-  record { there = λ w h φ p. refl; back = λ w h φ q. refl },
-  record { there = λ w h φ p. refl; back = λ w h φ q. refl },
-  record { there = λ w h φ p. refl; back = λ w h φ q. refl },
+  record { there = λ w h b φ p. refl; back = λ w h b φ q. refl },
+  record { there = λ w h b φ p. refl; back = λ w h b φ q. refl },
+  record { there = λ w h b φ p. refl; back = λ w h b φ q. refl },
+  record { there = λ w h b φ p. refl; back = λ w h b φ q. refl },
 )

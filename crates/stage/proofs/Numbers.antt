@@ -12,12 +12,13 @@ use Rattle.integers.specs.Parts.{In}
 use Rattle.integers.proofs.Booleans.{and-iff}
 use Rattle.integers.proofs.Parts.{add-difference, scale-parts}
 use Rattle.integers.proofs.Ranges.{in-fits}
+use Rattle.stage.specs.Settings.{Settings, settingsOf}
 use Rattle.stage.specs.Planes.{Plane, C1, C2, C3, Triple, get}
 use Rattle.stage.specs.Filter.{inside, weight, weightSum, weightedSum, windowIndex, windowSample}
 use Rattle.stage.specs.Steps.{steps}
-use Rattle.stage.specs.Ranges.{Range, ranges, undoneRanges, sampleRange, sampleRanges, finishedRanges, extent, widest}
+use Rattle.stage.specs.Ranges.{Range, ranges, undoneRanges, sampleRange, sampleRanges, finishedRanges, bounded, extent, widest}
 use Rattle.stage.specs.Transform.{setup}
-use Rattle.stage.specs.Theorems.{bounded, MetForward, MetBack, WindowFits}
+use Rattle.stage.specs.Theorems.{MetForward, MetBack, WindowFits}
 use Rattle.stage.proofs.Triples.{each-plane, each-test}
 use Rattle.stage.proofs.Means.{weightedSum-in}
 use Rattle.stage.proofs.StepRanges.{Inside, AllInside, inside-trans, take-inside, drop-inside, ranges-inside, undoneRanges-inside, in-inside, run-in, undo-in}
@@ -39,49 +40,69 @@ all-inside-by : (r R : Triple Range) → T (allInsideTest r R) → AllInside r R
 unfolding allInsideTest
 all-inside-by r R t = λ c. inside-by (get r c) (get R c) (each-test (λ (c : Plane). insideTest (get r c) (get R c)) .0 t c)
 
--- ---- depth 16 holds every depth
-pub depth-inside : (b : ℕ) → b ≤ 16 → AllInside (sampleRanges b) (sampleRanges 16)
-depth-inside b h =
-    let m = pow-mono {i = b} {j = 16} h in
-    let i : Inside (sampleRange b) (sampleRange 16) = omega arith in
-    each-plane (λ (c : Plane). Inside (get (sampleRanges b) c) (get (sampleRanges 16) c)) i i i
+-- ---- depth 16 holds every depth: deepest t are the settings of transform t at depth 16
+abbrev deepest : ℕ → Settings
+deepest t = settingsOf 1 1 16 t
 
-pub finished-inside : (t b : ℕ) → b ≤ 16 → AllInside (finishedRanges t b) (finishedRanges t 16)
-finished-inside t b h = ranges-inside (steps t) (sampleRanges b) (sampleRanges 16) (depth-inside b h)
+module _ (s : Settings) (h : s .depth ≤ 16) where
+  abbrev S : Settings
+  S = deepest (s .transform)
+
+  depth-inside : AllInside (sampleRanges s) (sampleRanges S)
+  depth-inside =
+      let m = pow-mono {i = s .depth} {j = 16} h in
+      let i : Inside (sampleRange (s .depth)) (sampleRange 16) = omega arith in
+      each-plane (λ (c : Plane). Inside (get (sampleRanges s) c) (get (sampleRanges S) c)) i i i
+
+  pub finished-inside : AllInside (finishedRanges s) (finishedRanges S)
+  finished-inside = ranges-inside (steps (s .transform)) (sampleRanges s) (sampleRanges S) depth-inside
+
+-- the ranges of finished planes at depth 16, and all steps undone from there
+abbrev finished : ℕ → Triple Range
+finished t = finishedRanges (deepest t)
+
+abbrev undone : ℕ → Triple Range
+undone t = undoneRanges (steps t) (finished t)
 
 -- one computed test a transform; a higher number has no steps
-finished-bounded : (t : ℕ) → AllInside (finishedRanges t 16) bounded
-unfolding insideTest allInsideTest
-finished-bounded zero = all-inside-by _ bounded tt
-finished-bounded (suc zero) = all-inside-by _ bounded tt
-finished-bounded (suc (suc zero)) = all-inside-by _ bounded tt
-finished-bounded (suc (suc (suc zero))) = all-inside-by _ bounded tt
-finished-bounded (suc (suc (suc (suc t)))) = all-inside-by _ bounded tt
+pub record Deepest (t : ℕ) : Type 0 where
+  pub finished-bounded : AllInside (finished t) bounded
+  pub undone-bounded : AllInside (undone t) bounded
+  pub widest-most : widest (deepest t) ≤ 262144
 
-pub finished-within : (t b : ℕ) → b ≤ 16 → AllInside (finishedRanges t b) bounded
-finished-within t b h = inside-trans _ (finishedRanges t 16) _ (finished-inside t b h) (finished-bounded t)
+deepest-by : (t : ℕ) → T (allInsideTest (finished t) bounded) → T (allInsideTest (undone t) bounded) → T (leb (widest (deepest t)) 262144) → Deepest t
+deepest-by t x y z = record {
+  finished-bounded = all-inside-by (finished t) bounded x;
+  undone-bounded = all-inside-by (undone t) bounded y;
+  widest-most = leb→le (widest (deepest t)) 262144 z;
+}
 
-undone-bounded : (t : ℕ) → AllInside (undoneRanges (steps t) (finishedRanges t 16)) bounded
+at-deepest : (t : ℕ) → Deepest t
 unfolding insideTest allInsideTest
-undone-bounded zero = all-inside-by _ bounded tt
-undone-bounded (suc zero) = all-inside-by _ bounded tt
-undone-bounded (suc (suc zero)) = all-inside-by _ bounded tt
-undone-bounded (suc (suc (suc zero))) = all-inside-by _ bounded tt
-undone-bounded (suc (suc (suc (suc t)))) = all-inside-by _ bounded tt
+at-deepest zero = deepest-by 0 tt tt tt
+at-deepest (suc zero) = deepest-by 1 tt tt tt
+at-deepest (suc (suc zero)) = deepest-by 2 tt tt tt
+at-deepest (suc (suc (suc zero))) = deepest-by 3 tt tt tt
+at-deepest (suc (suc (suc (suc t)))) = deepest-by (suc (suc (suc (suc t)))) tt tt tt
+
+pub finished-within : (s : Settings) → s .depth ≤ 16 → AllInside (finishedRanges s) bounded
+finished-within s h = inside-trans _ (finished (s .transform)) _ (finished-inside s h) (at-deepest (s .transform) .finished-bounded)
 
 pub met-forward : MetForward
-met-forward w h b t k φ p d i =
-    in-inside (ranges (take k (steps t)) (sampleRanges b)) bounded
-    (inside-trans _ (finishedRanges t b) _ (take-inside (steps t) k (sampleRanges b)) (finished-within t b d))
-    _ (run-in (setup w h φ) (λ x. refl) (take k (steps t)) (sampleRanges b) p i)
+met-forward s k φ p d i =
+    let l = steps (s .transform) in
+    in-inside (ranges (take k l) (sampleRanges s)) bounded
+    (inside-trans _ (finishedRanges s) _ (take-inside l k (sampleRanges s)) (finished-within s d))
+    _ (run-in (setup s φ) (λ x. refl) (take k l) (sampleRanges s) p i)
 
 pub met-back : MetBack
-met-back w h b t k φ q d i =
-    in-inside (undoneRanges (drop k (steps t)) (finishedRanges t b)) bounded
-    (inside-trans _ (undoneRanges (steps t) (finishedRanges t b)) _ (drop-inside (steps t) k (finishedRanges t b))
-    (inside-trans _ (undoneRanges (steps t) (finishedRanges t 16)) _
-    (undoneRanges-inside (steps t) (finishedRanges t b) (finishedRanges t 16) (finished-inside t b d)) (undone-bounded t)))
-    _ (undo-in (setup w h φ) (λ x. refl) (drop k (steps t)) (finishedRanges t b) q i)
+met-back s k φ q d i =
+    let l = steps (s .transform) in
+    in-inside (undoneRanges (drop k l) (finishedRanges s)) bounded
+    (inside-trans _ (undoneRanges l (finishedRanges s)) _ (drop-inside l k (finishedRanges s))
+    (inside-trans _ (undone (s .transform)) _
+    (undoneRanges-inside l (finishedRanges s) (finished (s .transform)) (finished-inside s d)) (at-deepest (s .transform) .undone-bounded)))
+    _ (undo-in (setup s φ) (λ x. refl) (drop k l) (finishedRanges s) q i)
 
 -- ---- a window's sums
 module _ (w h centre i : ℕ) where
@@ -110,17 +131,10 @@ window-fits w h centre i a c k =
     in-fits g (leb→le _ _ tt) (leb→le _ _ tt)
 
 -- ---- D, the widest range
-pub extent-widest : (t b : ℕ) (c : Plane) → extent (get (finishedRanges t b) c) ≤ widest t b
-extent-widest t b C1 = omega arith
-extent-widest t b C2 = omega arith
-extent-widest t b C3 = omega arith
+pub extent-widest : (s : Settings) (c : Plane) → extent (get (finishedRanges s) c) ≤ widest s
+extent-widest s C1 = omega arith
+extent-widest s C2 = omega arith
+extent-widest s C3 = omega arith
 
-pub widest-most : (t b : ℕ) → b ≤ 16 → widest t b ≤ 262144
-widest-most t b h = let i = finished-inside t b h in omega (arith, i C1, i C2, i C3, most t)
-  where
-    most : (t : ℕ) → widest t 16 ≤ 262144
-    most zero = leb→le _ _ tt
-    most (suc zero) = leb→le _ _ tt
-    most (suc (suc zero)) = leb→le _ _ tt
-    most (suc (suc (suc zero))) = leb→le _ _ tt
-    most (suc (suc (suc (suc t)))) = leb→le _ _ tt
+pub widest-most : (s : Settings) → s .depth ≤ 16 → widest s ≤ 262144
+widest-most s h = let i = finished-inside s h in omega (arith, i C1, i C2, i C3, at-deepest (s .transform) .widest-most)

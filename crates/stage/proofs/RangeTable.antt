@@ -1,12 +1,19 @@
--- At every depth the ranges computed from the steps are those of 01's table.
-use mathlib.Core.Path.{_≡_, refl, ap₂, sym, subst}
-use mathlib.Core.List.{_∷_}
-use Prim.Native.Nat.{ℕ, _+_, _*_, _-_, _≤_, _^_}
+-- At every depth the ranges computed from the steps are those of 01's table, and a picture's samples lie within them.
+use mathlib.Core.Path.{_≡_, refl, ap, ap₂, sym, _∙_, subst}
+use mathlib.Core.List.{List, [], _∷_, map}
+use Prim.Native.Nat.{ℕ, zero, suc, _+_, _*_, _-_, _≤_, _^_}
 use native.Mathlib.Omega.{arith}
 use lib.Pow.{pow-pos, pow-add}
-use Rattle.stage.specs.Planes.{Triple}
-use Rattle.stage.specs.Ranges.{Range}
-use Rattle.stage.specs.Theorems.{rangeRow, rangeTable, RangesAreTable, SecondStepRange}
+use lib.ListN.{getD, take}
+use Rattle.integers.specs.Lists.{AllIn}
+use Rattle.stage.specs.Settings.{Settings}
+use Rattle.stage.specs.Planes.{C3, Triple, Planes}
+use Rattle.stage.specs.Steps.{Step, transforms, YCoCg-R, steps, run}
+use Rattle.stage.specs.Ranges.{Range, ranges, sampleRanges, finishedRanges, rangeRow, rangeTable, depthTable, InRanges}
+use Rattle.stage.specs.Transform.{setup, transformed}
+use Rattle.stage.specs.Demand3.{GoesTo}
+use Rattle.stage.specs.Theorems.{RangesAreTable, SecondStepRange, StepsKeepRanges, SecondStepSamples, WithinTable}
+use Rattle.stage.proofs.StepRanges.{run-in}
 
 range-is : (a b : ℕ) (r : Range) → (a ≡ r .below) × (b ≡ r .above) → r ≡ record { below = a; above = b }
 range-is a b r e = sym (λ i. record { below = e .0 i; above = e .1 i })
@@ -20,9 +27,16 @@ row-is a b c d e f r h = sym (λ i. rangeRow (h .0 i) (h .1 i) (h .2 i) (h .3 i)
 pub pow-split : (b k : ℕ) → k ≤ b → 2 ^ b ≡ 2 ^ (b - k) * 2 ^ k
 pow-split b k h = let e : b - k + k ≡ b = omega arith in subst (λ (n : ℕ). 2 ^ n ≡ 2 ^ (b - k) * 2 ^ k) e (pow-add 2 (b - k) k)
 
-pub ranges-are-table : RangesAreTable
+-- an entry of a list of images
+getD-map : {A B : Type 0} (f : A → B) (d : A) (l : List A) (i : ℕ) → f (getD l i d) ≡ getD (map f l) i (f d)
+getD-map f d [] i = refl
+getD-map f d (x ∷ l) zero = refl
+getD-map f d (x ∷ l) (suc i) = getD-map f d l i
+
+table : (s : Settings) → 2 ≤ s .depth → map (λ (l : List Step). ranges l (sampleRanges s)) transforms ≡ depthTable (s .depth)
 unfolding rangeTable
-ranges-are-table b h =
+table s h =
+    let b = s .depth in
     let q : 1 ≤ 2 ^ (b - 2) = pow-pos (b - 2) in
     let m : 2 ^ b ≡ 2 ^ (b - 2) * 4 = pow-split b 2 h in
     let n : 2 ^ b ≡ 2 ^ (b - 1) * 2 = pow-split b 1 (omega arith) in
@@ -30,8 +44,32 @@ ranges-are-table b h =
     (ap₂ _∷_ (row-is _ _ _ _ _ _ _ (omega arith))
     (ap₂ _∷_ (row-is _ _ _ _ _ _ _ (omega arith)) (ap₂ _∷_ (row-is _ _ _ _ _ _ _ (omega arith)) refl)))
 
+pub ranges-are-table : RangesAreTable
+ranges-are-table s h =
+    getD-map (λ (l : List Step). ranges l (sampleRanges s)) [] transforms (s .transform)
+    ∙ ap (λ (l : List (Triple Range)). getD l (s .transform) (sampleRanges s)) (table s h)
+
 pub second-step-range : SecondStepRange
-second-step-range b h =
+second-step-range s h =
+    let b = s .depth in
     let q : 1 ≤ 2 ^ (b - 1) = pow-pos (b - 1) in
     let n : 2 ^ b ≡ 2 ^ (b - 1) * 2 = pow-split b 1 (omega arith) in
     range-is _ _ _ (omega arith)
+
+-- ---- of samples
+pub steps-keep-ranges : StepsKeepRanges
+steps-keep-ranges s k φ p h = run-in (setup s φ) (λ x. refl) (take k (steps (s .transform))) (sampleRanges s) p (h .samples)
+
+pub second-step-samples : SecondStepSamples
+second-step-samples s φ p b h =
+    subst (λ (r : Range). AllIn (r .below) (r .above) (run (setup s φ) (take 2 YCoCg-R) p .c3)) (second-step-range s b)
+    (run-in (setup s φ) (λ x. refl) (take 2 YCoCg-R) (sampleRanges s) p (h .samples) C3)
+
+-- what a picture goes to lies within the ranges of finished planes
+pub goes-within : (s : Settings) (φ : List ℕ) (p q : Planes) → GoesTo s φ p q → InRanges (finishedRanges s) q
+unfolding transformed
+goes-within s φ p q g =
+    subst (InRanges (finishedRanges s)) (g .goes) (run-in (setup s φ) (λ x. refl) (steps (s .transform)) (sampleRanges s) p (g .picture .samples))
+
+pub within-table : WithinTable
+within-table s φ p q b g = subst (λ (r : Triple Range). InRanges r q) (ranges-are-table s b) (goes-within s φ p q g)

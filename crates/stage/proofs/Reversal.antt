@@ -143,6 +143,7 @@ module _ (σ : Setup) where
 
 pub steps-cancel : StepsCancel
 unfolding transformed untransformed
-steps-cancel w h t φ p =
-    let σ = setup w h φ in
+steps-cancel s φ p =
+    let σ = setup s φ in
+    let t = s .transform in
     (undo-run σ (unchanged (λ x. refl)) (steps t) (apart t) p (λ c k. refl), run-undo σ (unchanged (λ x. refl)) (steps t) (apart t) p (λ c k. refl))

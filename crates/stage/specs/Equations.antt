@@ -7,6 +7,7 @@ use lib.IntN.{ℤ, negℤ, _+ℤ_, _-ℤ_}
 use lib.ListN.{getD}
 use Rattle.integers.specs.Parts.{floorDiv}
 use Rattle.integers.specs.Lists.{mapIndexed}
+use Rattle.stage.specs.Settings.{settingsOf}
 use Rattle.stage.specs.Planes.{Planes, triple}
 use Rattle.stage.specs.Filter.{filtered}
 use Rattle.stage.specs.Transform.{transformed, untransformed}
@@ -60,10 +61,10 @@ module _ (w h : ℕ) (φ : List ℕ) where
       let r = mapIndexed (λ i x. x +ℤ floorDiv (d 1 (q .c2) i) 2) 0 (q .c1) in
       triple r (mapIndexed (λ i x. negℤ x +ℤ d 0 r i) 0 (q .c2)) (mapIndexed (λ i x. x +ℤ d 2 (q .c1) i) 0 (q .c3))
 
--- transform t is the equations f, and back it is g
+-- transform t, at any size w by h and depth b, is the equations f, and back it is g
 pub record Equations (t : ℕ) (f g : ℕ → ℕ → List ℕ → Planes → Planes) : Type 0 where
-  pub there : (w h : ℕ) (φ : List ℕ) (p : Planes) → transformed w h t φ p ≡ f w h φ p
-  pub back : (w h : ℕ) (φ : List ℕ) (q : Planes) → untransformed w h t φ q ≡ g w h φ q
+  pub there : (w h b : ℕ) (φ : List ℕ) (p : Planes) → transformed (settingsOf w h b t) φ p ≡ f w h φ p
+  pub back : (w h b : ℕ) (φ : List ℕ) (q : Planes) → untransformed (settingsOf w h b t) φ q ≡ g w h φ q
 
 abbrev pub EquationsHold : Type 0
 EquationsHold = Equations 0 rct rctBack × Equations 1 ycocg ycocgBack × Equations 2 rdgdb rdgdbBack × Equations 3 ldgeb ldgebBack

@@ -1,4 +1,5 @@
--- The predictor, the counted samples, and the estimate of a plane and of a picture (01, "Estimate and search").
+-- The predictor, the counted samples, and the estimate of a plane and of a picture (01, "Estimate and search"). w is a plane's width,
+-- a its samples, t how many they are, i a sample's index, j the number of a counted sample; 01's k is `stride t`.
 use mathlib.Core.Bool.{Bool, cond, _&&_}
 use mathlib.Core.List.{List, [], _∷_}
 use Prim.Native.Nat.{ℕ, zero, suc, _+_, _*_, _-_, _/_, _%_}
@@ -10,20 +11,20 @@ use Rattle.integers.specs.Lists.{at}
 use Rattle.stage.specs.Planes.{Planes}
 use Rattle.stage.specs.Logarithm.{L}
 
--- MED, from left a, above e and above-left c: the lesser of a and e if c is at least both, the greater if c is at most both,
--- else a + e − c
-unfoldable pub med : ℤ → ℤ → ℤ → ℤ
+-- MED, from left a, above e and above-left c, which are 01's letters: the lesser of a and e if c is at least both, the greater if c
+-- is at most both, else a + e − c
+unfoldable pub med : (a e c : ℤ) → ℤ
 med a e c = cond (leZ a c && leZ e c) (cond (leZ a e) a e) (cond (leZ c a && leZ c e) (cond (leZ a e) e a) (a +ℤ e -ℤ c))
 
 -- The first row uses the left sample alone, the first column the one above alone, the first sample 0. Neighbours are always
 -- those of the whole plane, counted or not.
-unfoldable pub prediction : ℕ → List ℤ → ℕ → ℤ
+unfoldable pub prediction : (w : ℕ) (a : List ℤ) (i : ℕ) → ℤ
 prediction w a i =
     cond (ltb i w)
     (cond (eqb i 0) (pos 0) (at a (i - 1)))
     (cond (eqb (i % w) 0) (at a (i - w)) (med (at a (i - 1)) (at a (i - w)) (at a (i - w - 1))))
 
-unfoldable pub residual : ℕ → List ℤ → ℕ → ℤ
+unfoldable pub residual : (w : ℕ) (a : List ℤ) (i : ℕ) → ℤ
 residual w a i = at a i -ℤ prediction w a i
 
 -- A picture of t samples a plane is counted at indices 0, k, 2k and so on, k being t / 4096 rounded up; N is how many these are.
@@ -33,16 +34,18 @@ stride t = (t + 4095) / 4096
 unfoldable pub counted : ℕ → ℕ
 counted t = (t + stride t - 1) / stride t
 
-unfoldable pub countedIndex : ℕ → ℕ → ℕ
+unfoldable pub countedIndex : (t j : ℕ) → ℕ
 countedIndex t j = j * stride t
 
--- Among r 0, r 1, .. r (n − 1): how often a occurs, and how often each that occurs among the first m does, once each
+-- A histogram of the values r 0, r 1, r 2 and so on.
 module _ {A : Type 0} (same : A → A → Bool) (r : ℕ → A) where
-  unfoldable pub occurrences : ℕ → A → ℕ
-  occurrences zero a = 0
-  occurrences (suc n) a = cond (same (r n) a) 1 0 + occurrences n a
+  -- how often x occurs among the first n
+  unfoldable pub occurrences : (n : ℕ) (x : A) → ℕ
+  occurrences zero x = 0
+  occurrences (suc n) x = cond (same (r n) x) 1 0 + occurrences n x
 
-  unfoldable pub histogram : ℕ → ℕ → List ℕ
+  -- for each value that occurs among the first m, listed at its first occurrence: how often it occurs among the first n
+  unfoldable pub histogram : (n m : ℕ) → List ℕ
   histogram n zero = []
   histogram n (suc m) = cond (eqb (occurrences m (r m)) 0) (occurrences n (r m) ∷ histogram n m) (histogram n m)
 
@@ -59,10 +62,10 @@ unfoldable pub estimateOfCounts : List ℕ → ℕ
 estimateOfCounts l = total l * L (total l) - logSum l
 
 abbrev pub sameNumber : ℤ → ℤ → Bool
-sameNumber a b = leZ a b && leZ b a
+sameNumber x y = leZ x y && leZ y x
 
 -- the residual at the j-th counted index of a plane of width w
-abbrev pub countedResidual : ℕ → List ℤ → ℕ → ℤ
+abbrev pub countedResidual : (w : ℕ) (a : List ℤ) (j : ℕ) → ℤ
 countedResidual w a j = residual w a (countedIndex (length a) j)
 
 unfoldable pub planeEstimate : ℕ → List ℤ → ℕ

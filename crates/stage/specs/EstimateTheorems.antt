@@ -1,5 +1,7 @@
 -- What holds of the estimate's definitions: nothing that it counts leaves its range, every counted sample is counted once, and the
 -- subtraction never goes below zero (01, "Estimate and search"). `LogarithmMonotone` of Logarithm.antt is one of these facts.
+-- w stands for the width, a for a plane's samples (in `MedInRange` a, e and c are MED's three numbers), i for an index, t for a
+-- plane's number of samples, j for how many were counted so far, r for residuals by their index and n for how many, l for counts.
 use mathlib.Core.Path.{_≡_}
 use mathlib.Core.List.{List}
 use mathlib.Core.Logic.{_↔_}

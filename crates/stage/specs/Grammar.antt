@@ -1,10 +1,12 @@
 -- The header once more, as a grammar (01, "Pixmaps and the report"): which bytes are a comment, a stretch, a number, a field, a header.
+-- l is a text, b a byte, n a number. `letter` is not 01's, which has P6 alone (54).
 use mathlib.Core.Path.{_≡_}
 use mathlib.Core.Bool.{true, false}
 use mathlib.Core.List.{List, [], _∷_, _++_}
 use Prim.Native.Nat.{ℕ, _+_, _-_, _*_, _^_, _≤_}
 use lib.ListN.{length}
-use Rattle.stage.specs.Pixmap.{isWhite, isDigit, endsComment}
+use Rattle.stage.specs.Decimal.{isDigit}
+use Rattle.stage.specs.Pixmap.{isWhite, endsComment}
 
 -- what stands behind # in a comment: bytes that do not end it, and the one that does
 pub data CommentText : List ℕ → Type 0 where
@@ -53,3 +55,38 @@ pub record IsPixmap (file : List ℕ) (width height depth : ℕ) (raster : List 
   pub depth-range : (2 ≤ depth) × (depth ≤ 8)
   pub is-maxval : maxval ≡ 2 ^ depth - 1
   pub is-length : length raster ≡ 3 * width * height
+
+-- ---- files of that form that are refused all the same, in order
+-- "2 width or height outside 1 to 8,192"
+pub record WrongSize (file : List ℕ) : Type 0 where
+  pub width : ℕ
+  pub height : ℕ
+  pub maxval : ℕ
+  pub raster : List ℕ
+  pub is-header : IsHeader 54 file width height maxval raster
+  pub wrong : ((1 ≤ width) × (width ≤ 8192)) × ((1 ≤ height) × (height ≤ 8192)) → ⊥
+
+-- "3 other maxval": M of no depth of 2 to 8
+pub record WrongMaxval (file : List ℕ) : Type 0 where
+  pub width : ℕ
+  pub height : ℕ
+  pub maxval : ℕ
+  pub raster : List ℕ
+  pub is-header : IsHeader 54 file width height maxval raster
+  pub width-range : (1 ≤ width) × (width ≤ 8192)
+  pub height-range : (1 ≤ height) × (height ≤ 8192)
+  pub wrong : (depth : ℕ) → (2 ≤ depth) × (depth ≤ 8) → maxval ≡ 2 ^ depth - 1 → ⊥
+
+-- "4 raster length wrong"
+pub record WrongLength (file : List ℕ) : Type 0 where
+  pub width : ℕ
+  pub height : ℕ
+  pub depth : ℕ
+  pub maxval : ℕ
+  pub raster : List ℕ
+  pub is-header : IsHeader 54 file width height maxval raster
+  pub width-range : (1 ≤ width) × (width ≤ 8192)
+  pub height-range : (1 ≤ height) × (height ≤ 8192)
+  pub depth-range : (2 ≤ depth) × (depth ≤ 8)
+  pub is-maxval : maxval ≡ 2 ^ depth - 1
+  pub wrong : length raster ≡ 3 * width * height → ⊥

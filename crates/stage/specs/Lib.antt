@@ -1,4 +1,6 @@
 pub mod Answers
+pub mod Settings
+pub mod Decimal
 pub mod Planes
 pub mod Filter
 pub mod Steps
@@ -9,7 +11,13 @@ pub mod Estimate
 pub mod Search
 pub mod Pixmap
 pub mod Grammar
+pub mod Case
 pub mod Cases
+pub mod FilterCases
+pub mod TransformCases
+pub mod SearchCases
+pub mod PixmapCases
 pub mod Equations
+pub mod Demand3
 pub mod Theorems
 pub mod EstimateTheorems

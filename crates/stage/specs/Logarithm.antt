@@ -5,7 +5,8 @@ use Prim.Native.Nat.{ℕ, suc, _-_, _^_, _≤_, _<_}
 use lib.ListN.{getD}
 use lib.Ieee.{size}
 
--- 01's L(n), for n from 1: the greatest whole number with 2 ^ L n not above n ^ 64. It is the number of binary digits of n ^ 64, less one.
+-- 01's L(n), for n from 1: the greatest whole number with 2 ^ L n not above n ^ 64 (`LogarithmGreatest` below says so). It is the number
+-- of binary digits of n ^ 64, less one: `size` counts the binary digits of a natural number, and no float is meant.
 unfoldable pub L : ℕ → ℕ
 L n = size (n ^ 64) - 1
 

@@ -1,12 +1,14 @@
 -- Portable pixmaps (01, "Pixmaps and the report"): the header's text, its refusals, the raster and its three planes.
--- A text function says what stands at the front of a list of bytes, or what is left behind that; [] leaves [].
+-- A text function says what stands at the front of a list of bytes, or what is left behind that; [] leaves []. l is a text, b a byte;
+-- where depths are meant, b is a depth and m a maxval.
 use mathlib.Core.Bool.{Bool, false, cond, not, _&&_, _||_}
 use mathlib.Core.List.{List, [], _∷_, _++_}
-use Prim.Native.Nat.{ℕ, zero, suc, _+_, _-_, _*_}
+use Prim.Native.Nat.{ℕ, zero, suc, _*_}
 use lib.Dec.{eqb}
 use lib.IntN.{ℤ, pos}
 use lib.ListN.{length, drop, getD}
 use Rattle.stage.specs.Answers.{Reply, done, refused, Test, _else_, answer, Outcome, outcome, between, sized}
+use Rattle.stage.specs.Decimal.{isDigit, decimal, afterDigits}
 use Rattle.stage.specs.Planes.{Planes, triple}
 use Rattle.stage.specs.Ranges.{maxSample}
 use Rattle.stage.specs.Transform.{lengths, allEqual}
@@ -14,10 +16,6 @@ use Rattle.stage.specs.Transform.{lengths, allEqual}
 -- "White space is blank, tab, line feed, vertical tab, form feed or carriage return": 32, or 9 to 13
 unfoldable pub isWhite : ℕ → Bool
 isWhite b = eqb b 32 || between 9 13 b
-
--- a decimal digit: 48 to 57
-unfoldable pub isDigit : ℕ → Bool
-isDigit b = between 48 57 b
 
 -- a comment goes "through the next line feed or carriage return"
 abbrev pub endsComment : ℕ → Bool
@@ -41,17 +39,8 @@ unfoldable pub afterStretch : Bool → List ℕ → List ℕ
 afterStretch inside [] = []
 afterStretch inside (b ∷ l) = cond (endsStretch inside b) (b ∷ l) (afterStretch (staysInside inside b) l)
 
--- ---- "Numbers are one or more decimal digits; leading zeros are allowed"
--- the number of the digits in front, without limit, where those before them gave n
-unfoldable pub decimal : ℕ → List ℕ → ℕ
-decimal n [] = n
-decimal n (b ∷ l) = cond (isDigit b) (decimal (10 * n + (b - 48)) l) n
-
-unfoldable pub afterDigits : List ℕ → List ℕ
-afterDigits [] = []
-afterDigits (b ∷ l) = cond (isDigit b) (afterDigits l) (b ∷ l)
-
--- ---- "white space, width": a stretch that "begins with a white space byte", and a number
+-- ---- "white space, width": a stretch that "begins with a white space byte", and a number. "Numbers are one or more decimal digits;
+-- leading zeros are allowed"
 pub record Field : Type 0 where
   pub formed : Bool
   pub value : ℕ
@@ -63,7 +52,8 @@ field l =
     record { formed = isWhite (first l) && isDigit (first digits); value = decimal 0 digits; rest = afterDigits digits }
 
 -- ---- "Header: the letters P6 [80 54], white space, width, white space, height, white space, maxval, one white space byte"
--- The second letter is a parameter. The rest is what stands behind the header.
+-- The second letter is a parameter that 01 does not have: it has P6 alone, and a header of another letter reads the same way. The
+-- rest is what stands behind the header.
 pub record HeaderText : Type 0 where
   pub formed : Bool
   pub width : ℕ
@@ -71,7 +61,7 @@ pub record HeaderText : Type 0 where
   pub maxval : ℕ
   pub rest : List ℕ
 
-unfoldable pub headerText : ℕ → List ℕ → HeaderText
+unfoldable pub headerText : (letter : ℕ) (file : List ℕ) → HeaderText
 headerText letter file =
     let w = field (drop 2 file) in
     let h = field (w .rest) in
@@ -86,7 +76,7 @@ headerText letter file =
 
 -- ---- "Maxval is M for a depth of 2 to 8", and M = 2^b − 1
 -- the depth, of `count` depths from b on, whose M is m; 0 where there is none
-unfoldable pub depthAmong : ℕ → ℕ → ℕ → ℕ
+unfoldable pub depthAmong : (count b m : ℕ) → ℕ
 depthAmong zero b m = 0
 depthAmong (suc count) b m = cond (eqb m (maxSample b)) b (depthAmong count (suc b) m)
 
@@ -94,8 +84,9 @@ abbrev pub depthOf : ℕ → ℕ
 depthOf m = depthAmong 7 2 m
 
 -- ---- "1 header not of that form; 2 width or height outside 1 to 8,192; 3 other maxval; 4 raster length wrong. In that order."
--- `known` says whether the maxval is one that is taken, `pixel` how many bytes a pixel has, `bytes` how many the raster has.
-abbrev pub headerTests : Bool → ℕ → ℕ → Bool → ℕ → ℕ → List Test
+-- `bytes` is how many bytes the raster has. Two parameters are not 01's, so that the tests serve other letters too: `known`, whether
+-- the maxval is one that is taken, and `pixel`, how many bytes a pixel has. 01's are in `pixmapTests`.
+abbrev pub headerTests : (formed : Bool) (width height : ℕ) (known : Bool) (pixel bytes : ℕ) → List Test
 headerTests formed width height known pixel bytes =
     (formed else 1) ∷ (sized width height else 2) ∷ (known else 3) ∷ (eqb bytes (pixel * width * height) else 4) ∷ []
 
@@ -135,9 +126,9 @@ abbrev pub rasterPlanes : List ℕ → Planes
 rasterPlanes raster = triple (everyThird raster) (everyThird (drop 1 raster)) (everyThird (drop 2 raster))
 
 -- ---- the call that fills three lent planes from a file: the reader's refusals, then "8 a plane's length not width × height"
--- whether each plane has n numbers
+-- t is the file's text, p the planes lent
 abbrev pub planesTests : HeaderText → Planes → List Test
 planesTests t p = pixmapTests t ++ ((allEqual (t .width * t .height) (lengths p) else 8) ∷ [])
 
-unfoldable pub planesOf : List ℕ → Planes → Outcome Unit (Planes)
+unfoldable pub planesOf : (file : List ℕ) (lent : Planes) → Outcome Unit Planes
 planesOf file lent = outcome (planesTests (headerText 54 file) lent) tt (rasterPlanes (rasterOf file)) lent

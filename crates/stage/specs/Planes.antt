@@ -1,10 +1,10 @@
 -- Planes 1, 2 and 3 (01, "Planes and steps").
+-- t stands for three of anything, one for each plane; a, b and c for what planes 1, 2 and 3 have of it.
 use mathlib.Core.Bool.{Bool, true, false}
 use mathlib.Core.List.{List}
 use lib.IntN.{ℤ}
-
-pub data Plane : Type 0 where
-  C1 C2 C3 : Plane
+pub use Rattle.stage.specs.declared.Plane.{Plane}
+pub use Rattle.stage.specs.declared.Plane.the-variants.{C1, C2, C3}
 
 -- one of anything for each plane: their samples, their ranges, their lengths
 pub record Triple (A : Type 0) : Type 0 where

@@ -1,16 +1,15 @@
--- Ranges of planes, computed from the steps (01, "Ranges of finished planes"). Every range holds 0, so two natural numbers say it.
+-- Ranges of planes, computed from the steps (01, "Ranges of finished planes"). Every range holds 0, so two natural numbers say it:
+-- −below to above. r is a range or one for each plane, v the range of what a step adds, x that of the plane which it changes, b a
+-- depth; M, H and q are 01's numbers.
 use mathlib.Core.Bool.{Bool, _&&_}
 use mathlib.Core.List.{List, [], _∷_}
-use Prim.Native.Nat.{ℕ, _+_, _-_, _/_, _^_, max}
+use Prim.Native.Nat.{ℕ, _+_, _*_, _-_, _/_, _^_, max}
 use lib.IntN.{ℤ}
+pub use Rattle.stage.specs.declared.Range.{Range}
 use Rattle.integers.specs.Lists.{AllIn, allWithin}
+use Rattle.stage.specs.Settings.{Settings}
 use Rattle.stage.specs.Planes.{Plane, Triple, Planes, triple, get, put}
 use Rattle.stage.specs.Steps.{Step, reversed, Term, Lifting, add, subtract, negate, _ᵈ_, _⊕_, _/2, _/4, steps}
-
--- −below to above
-pub record Range : Type 0 where
-  pub below : ℕ
-  pub above : ℕ
 
 -- a filter keeps its plane's range; sums and floors act on the ends
 abbrev pub termRange : Triple Range → Term → Range
@@ -20,7 +19,7 @@ termRange r (t /2) = record { below = (termRange r t .below + 1) / 2; above = te
 termRange r (t /4) = record { below = (termRange r t .below + 3) / 4; above = termRange r t .above / 4 }
 
 -- a negating step's range takes in what its plane had before, so that it also holds where the step is skipped
-abbrev pub liftRange : Lifting → Range → Range → Range
+abbrev pub liftRange : Lifting → (v x : Range) → Range
 liftRange add v x = record { below = x .below + v .below; above = x .above + v .above }
 liftRange subtract v x = record { below = x .below + v .above; above = x .above + v .below }
 liftRange negate v x = record { below = max (x .below) (x .above + v .below); above = max (x .above) (x .below + v .above) }
@@ -44,20 +43,40 @@ maxSample b = 2 ^ b - 1
 abbrev pub sampleRange : ℕ → Range
 sampleRange b = record { below = 0; above = maxSample b }
 
-abbrev pub sampleRanges : ℕ → Triple Range
-sampleRanges b = triple (sampleRange b) (sampleRange b) (sampleRange b)
+abbrev pub sampleRanges : Settings → Triple Range
+sampleRanges s = triple (sampleRange (s .depth)) (sampleRange (s .depth)) (sampleRange (s .depth))
 
--- the ranges of finished planes of transform t at depth b
-abbrev pub finishedRanges : ℕ → ℕ → Triple Range
-finishedRanges t b = ranges (steps t) (sampleRanges b)
+-- the ranges of finished planes
+abbrev pub finishedRanges : Settings → Triple Range
+finishedRanges s = ranges (steps (s .transform)) (sampleRanges s)
+
+-- 01's table of them, a row for each transform: M, H and q are 2^b − 1, 2^(b−1) and 2^(b−2) at depth b
+abbrev pub rangeRow : (l1 h1 l2 h2 l3 h3 : ℕ) → Triple Range
+rangeRow l1 h1 l2 h2 l3 h3 =
+    triple (record { below = l1; above = h1 }) (record { below = l2; above = h2 }) (record { below = l3; above = h3 })
+
+unfoldable pub rangeTable : (M H q : ℕ) → List (Triple Range)
+rangeTable M H q =
+    rangeRow M M H (3 * H - 2) M M
+    ∷ rangeRow M M (3 * H - 2) (3 * H - 1) (5 * q - 1) (9 * q - 3)
+    ∷ rangeRow 0 M M M M M
+    ∷ rangeRow (H - 1) (3 * H - 1) M M (3 * H - 1) (3 * H - 2)
+    ∷ []
+
+abbrev pub depthTable : ℕ → List (Triple Range)
+depthTable b = rangeTable (2 ^ b - 1) (2 ^ (b - 1)) (2 ^ (b - 2))
+
+-- ±2^19, which holds every number that a call meets
+abbrev pub bounded : Triple Range
+bounded = let r : Range = record { below = 2 ^ 19; above = 2 ^ 19 } in triple r r r
 
 -- highest less lowest, and D, the widest of a transform's finished planes
 abbrev pub extent : Range → ℕ
 extent r = r .below + r .above
 
-abbrev pub widest : ℕ → ℕ → ℕ
-widest t b =
-    let r = finishedRanges t b in
+abbrev pub widest : Settings → ℕ
+widest s =
+    let r = finishedRanges s in
     max (extent (r .c1)) (max (extent (r .c2)) (extent (r .c3)))
 
 -- every number of every plane lies in its plane's range, and the same as a test

@@ -1,22 +1,24 @@
 -- The filter search, and the calls `estimate` and `search`: answer, and what choices and scratch hold (01, "Estimate and search").
+-- φ are the choices, k is a place's number, n a number of filters or of places, and m the memory lent.
 use mathlib.Core.Bool.{Bool, cond, _&&_}
 use mathlib.Core.List.{List, [], _∷_, _++_}
 use Prim.Native.Nat.{ℕ, zero, suc, _+_, _*_}
-use lib.Dec.{ltb, leb, eqb}
+use lib.Dec.{ltb, leb}
 use lib.IntN.{pos}
 use lib.ListN.{length, getD, set, replicate}
 use Rattle.stage.specs.Answers.{Test, _else_, Outcome, outcome, between}
+use Rattle.stage.specs.Settings.{Settings, pixels}
 use Rattle.stage.specs.Planes.{Triple, Planes, mapTriple}
 use Rattle.stage.specs.Steps.{steps, places}
 use Rattle.stage.specs.Ranges.{widest}
-use Rattle.stage.specs.Transform.{settings, choicesFit, lengths, isPicture, transformed}
+use Rattle.stage.specs.Transform.{settingsTests, countFits, choicesFit, lengths, isPicture, transformed}
 use Rattle.stage.specs.Estimate.{counted, pictureEstimate}
 
 -- The search, for any estimate e of the choices.
 module _ (e : List ℕ → ℕ) where
   -- The winner at place k of filters 0 to n − 1, tried with the others held: the lowest estimate wins; the present filter stays
   -- if it ties, else the lowest number wins.
-  unfoldable pub winner : List ℕ → ℕ → ℕ → ℕ
+  unfoldable pub winner : (φ : List ℕ) (k n : ℕ) → ℕ
   winner φ k zero = getD φ k 0
   winner φ k (suc n) = cond (ltb (e (set φ k n)) (e (set φ k (winner φ k n)))) n (winner φ k n)
 
@@ -25,17 +27,17 @@ module _ (e : List ℕ → ℕ) where
   round zero φ = φ
   round (suc n) φ = set (round n φ) n (winner (round n φ) n 13)
 
-  -- k rounds over n places, and the search: it starts with filter 0 at every place
-  unfoldable pub rounds : ℕ → ℕ → List ℕ → List ℕ
+  -- so many rounds over n places, and the search: it starts with filter 0 at every place
+  unfoldable pub rounds : (n count : ℕ) (φ : List ℕ) → List ℕ
   rounds n zero φ = φ
-  rounds n (suc k) φ = round n (rounds n k φ)
+  rounds n (suc count) φ = round n (rounds n count φ)
 
-  unfoldable pub searched : ℕ → ℕ → List ℕ
-  searched n k = rounds n k (replicate n 0)
+  unfoldable pub searched : (n count : ℕ) → List ℕ
+  searched n count = rounds n count (replicate n 0)
 
 -- the estimate of picture p under choices φ
-unfoldable pub choicesEstimate : ℕ → ℕ → ℕ → Planes → List ℕ → ℕ
-choicesEstimate w h t p φ = pictureEstimate w (transformed w h t φ p)
+unfoldable pub choicesEstimate : Settings → Planes → List ℕ → ℕ
+choicesEstimate s p φ = pictureEstimate (s .width) (transformed s φ p)
 
 -- what both calls answer: the estimate, and N
 pub record Estimated : Type 0 where
@@ -56,43 +58,46 @@ pub record Lent : Type 0 where
 abbrev pub allAtLeast : ℕ → Triple ℕ → Bool
 allAtLeast n l = leb n (l .c1) && (leb n (l .c2) && leb n (l .c3))
 
-abbrev pub scratchFits : ℕ → ℕ → ℕ → Triple ℕ → ℕ → Bool
-scratchFits n t b trials counters = allAtLeast n trials && leb (2 * widest t b + 1) counters
+abbrev pub scratchFits : (s : Settings) (trials : Triple ℕ) (counters : ℕ) → Bool
+scratchFits s trials counters = allAtLeast (pixels s) trials && leb (2 * widest s + 1) counters
 
 -- After success all lent scratch is zero, also what exceeds the need.
 abbrev pub cleared : {A : Type 0} → A → List A → List A
 cleared z l = replicate (length l) z
 
 abbrev pub clearedScratch : Scratch → Scratch
-clearedScratch s = record { trials = mapTriple (cleared (pos 0)) (s .trials); counters = cleared 0 (s .counters) }
+clearedScratch m = record { trials = mapTriple (cleared (pos 0)) (m .trials); counters = cleared 0 (m .counters) }
 
--- the tests of both calls, up to 9
-abbrev pub scratchSettings : ℕ → ℕ → ℕ → ℕ → Bool → Triple ℕ → Triple ℕ → ℕ → List Test
-scratchSettings w h b t choices l trials counters =
-    settings w h b t choices l ++ (scratchFits (w * h) t b trials counters else 9) ∷ []
+-- The tests of both calls, up to 9; l has the lengths of the picture's planes, trials those of the trial planes.
+abbrev pub scratchTests : (s : Settings) (choices : Bool) (l trials : Triple ℕ) (counters : ℕ) → List Test
+scratchTests s choices l trials counters = settingsTests s choices l ++ (scratchFits s trials counters else 9) ∷ []
 
-module _ (w h b t : ℕ) (p : Planes) where
+module _ (s : Settings) (p : Planes) where
   abbrev pub estimated : List ℕ → Estimated
-  estimated φ = record { estimate = choicesEstimate w h t p φ; samples = counted (w * h) }
+  estimated φ = record { estimate = choicesEstimate s p φ; samples = counted (pixels s) }
 
   -- The estimate under the choices given, which stay as they are; so do the picture's planes, here and below.
   unfoldable pub estimateCall : List ℕ → Scratch → Outcome Estimated Scratch
-  estimateCall φ s =
+  estimateCall φ m =
       outcome
-      (scratchSettings w h b t (choicesFit t φ) (lengths p) (lengths (s .trials)) (length (s .counters)) ++ (isPicture b p else 11) ∷ [])
+      (scratchTests s (choicesFit s φ) (lengths p) (lengths (m .trials)) (length (m .counters)) ++ (isPicture s p else 11) ∷ [])
       (estimated φ)
-      (clearedScratch s)
-      s
+      (clearedScratch m)
+      m
 
   abbrev pub winners : ℕ → List ℕ
-  winners rounds = searched (choicesEstimate w h t p) (places (steps t)) rounds
+  winners rounds = searched (choicesEstimate s p) (places (steps (s .transform))) rounds
+
+  -- The tests of the search, up to 10.
+  abbrev pub searchTests : ℕ → Lent → List Test
+  searchTests rounds m =
+      scratchTests s (countFits s (length (m .choices))) (lengths p) (lengths (m .scratch .trials)) (length (m .scratch .counters))
+      ++ (between 1 4 rounds else 10) ∷ []
 
   unfoldable pub searchCall : ℕ → Lent → Outcome Estimated Lent
   searchCall rounds m =
-      let s = m .scratch in
       outcome
-      (scratchSettings w h b t (eqb (length (m .choices)) (places (steps t))) (lengths p) (lengths (s .trials)) (length (s .counters))
-      ++ (between 1 4 rounds else 10) ∷ (isPicture b p else 11) ∷ [])
+      (searchTests rounds m ++ (isPicture s p else 11) ∷ [])
       (estimated (winners rounds))
-      (record { choices = winners rounds; scratch = clearedScratch s })
+      (record { choices = winners rounds; scratch = clearedScratch (m .scratch) })
       m

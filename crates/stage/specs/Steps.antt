@@ -1,4 +1,5 @@
--- Lifting steps, the four transforms as lists of steps, and what the steps make of three planes, forward and back (01, "Planes and steps").
+-- Lifting steps, the four transforms as lists of steps, and what the steps make of three planes, forward and back (01, "Planes and
+-- steps"). Here s is a step, t and u are terms, v is a term's value, σ what the steps run with, and k a place's number.
 use mathlib.Core.Bool.{Bool, cond, _&&_}
 use mathlib.Core.List.{List, [], _∷_}
 use Prim.Native.Nat.{ℕ, _+_}
@@ -57,7 +58,7 @@ abbrev pub transforms : List (List Step)
 transforms = RCT ∷ YCoCg-R ∷ RDgDb ∷ LDgEb ∷ []
 
 abbrev pub steps : ℕ → List Step
-steps t = getD transforms t []
+steps n = getD transforms n []
 
 -- how many places a transform has
 abbrev pub termPlaces : Term → ℕ
@@ -70,17 +71,21 @@ abbrev pub places : List Step → ℕ
 places [] = 0
 places (s ∷ l) = termPlaces (s .term) + places l
 
--- What the steps run with: the picture's size, the filter of a place at a sample's index, whether a step whose places are all
--- null is skipped, and how a step's result is kept.
+-- What the steps run with. 01 has one filter a place, skips no step and keeps every result as it is (`setup`, Transform.antt). What
+-- is free beyond that leaves room for filters that change down the picture, for steps that are skipped, and for results kept to the
+-- depth's bits.
 pub record Setup : Type 0 where
   pub width : ℕ
   pub height : ℕ
-  pub filter : ℕ → ℕ → ℕ
+  -- the filter of a place at a sample's index
+  pub filter : (k i : ℕ) → ℕ
+  -- not 01's: whether a step whose places are all null is skipped
   pub skips : Bool
+  -- not 01's: how a step's result is kept
   pub keep : ℤ → ℤ
 
 -- the term's value at index i
-abbrev pub value : Setup → Planes → Term → ℕ → ℤ
+abbrev pub value : (σ : Setup) (p : Planes) (t : Term) (i : ℕ) → ℤ
 value σ p (c ᵈ k) i = filtered (σ .width) (σ .height) (σ .filter k i) (get p c) i
 value σ p (t ⊕ u) i = value σ p t i +ℤ value σ p u i
 value σ p (t /2) i = floorDiv (value σ p t i) 2
@@ -96,13 +101,13 @@ allNull σ (t /4) i = allNull σ t i
 abbrev pub skipped : Setup → Term → ℕ → Bool
 skipped σ t i = σ .skips && allNull σ t i
 
-abbrev pub lift : Lifting → ℤ → ℤ → ℤ
+abbrev pub lift : Lifting → (v x : ℤ) → ℤ
 lift add v x = x +ℤ v
 lift subtract v x = x -ℤ v
 lift negate v x = negℤ x +ℤ v
 
 -- the sample x at index i after the step
-abbrev pub lifted : Setup → Planes → Step → ℕ → ℤ → ℤ
+abbrev pub lifted : (σ : Setup) (p : Planes) (s : Step) (i : ℕ) (x : ℤ) → ℤ
 lifted σ p s i x = cond (skipped σ (s .term) i) x (σ .keep (lift (s .lifting) (value σ p (s .term) i) x))
 
 -- A step covers the whole picture before the next begins.

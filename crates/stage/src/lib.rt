@@ -1,1 +1,73 @@
-// The definitions of the colour stage are in specs/ and what is proved of them in proofs/: this crate has no code.
+// What the code of all crates shares with the definitions of the colour stage (specs/): the planes, a run's settings, a range, an
+// answer, and the tests of sizes and lengths.
+ghost use mathlib.Core.Path.{_≡_};
+ghost use Rattle.stage.specs.Answers.{between, sized};
+ghost use Rattle.stage.specs.Planes.{triple, samePlane};
+ghost use Rattle.stage.specs.Transform.{allEqual};
+
+pub enum Plane {
+    C1,
+    C2,
+    C3,
+}
+
+pub fn same_plane(a: Plane, b: Plane) -> bool
+    ensures { λ r. ⌜ r ≡ samePlane a b ⌝ }
+{
+    match a {
+        Plane::C1 => match b {
+            Plane::C1 => true,
+            Plane::C2 => false,
+            Plane::C3 => false,
+        },
+        Plane::C2 => match b {
+            Plane::C1 => false,
+            Plane::C2 => true,
+            Plane::C3 => false,
+        },
+        Plane::C3 => match b {
+            Plane::C1 => false,
+            Plane::C2 => false,
+            Plane::C3 => true,
+        },
+    }
+}
+
+// A picture's width, height and depth, and the number of its transform. Each call tests them.
+pub struct Settings {
+    pub width: u32,
+    pub height: u32,
+    pub depth: u32,
+    pub transform: u32,
+}
+
+// −below to above
+pub struct Range {
+    pub below: u32,
+    pub above: u32,
+}
+
+// Success, or the number of a refusal.
+pub enum Answer {
+    Done,
+    Refused(u32),
+}
+
+pub fn is_between(low: u32, high: u32, n: u32) -> bool
+    ensures { λ r. ⌜ r ≡ between low high n ⌝ }
+{
+    (low <= n) & (n <= high)
+}
+
+pub fn is_sized(width: u32, height: u32) -> bool
+    ensures { λ r. ⌜ r ≡ sized width height ⌝ }
+{
+    ((1 <= width) & (width <= 8192)) & ((1 <= height) & (height <= 8192))
+}
+
+// Whether three lengths are n.
+pub fn all_equal(n: usize, n1: usize, n2: usize, n3: usize) -> bool
+    ensures { λ r. ⌜ r ≡ allEqual n (triple n1 n2 n3) ⌝ }
+{
+    (n1 == n) & ((n2 == n) & (n3 == n))
+}

@@ -1,122 +1,84 @@
--- The calls' answers: the first refusal, or what the steps leave.
-use mathlib.Core.Path.{_≡_, refl, sym, ap, _∙_, subst}
-use mathlib.Core.Bool.{Bool, true, false, cond}
-use mathlib.Core.List.{List, [], _∷_, _++_}
-use Prim.Native.Nat.{ℕ, _*_, _≤_}
+-- The calls past their tests: what the steps ask holds, and what they leave is the definitions' result.
+use mathlib.Core.Path.{_≡_, sym, ap, _∙_, subst}
+use mathlib.Core.Bool.{Bool, true, false}
+use mathlib.Core.List.{List}
+use Prim.Native.Nat.{ℕ}
 use native.Mathlib.Omega.{arith}
-use lib.Dec.{T}
+use lib.Dec.{T, ltb}
 use lib.ListN.{length}
+use Rattle.integers.specs.Slices.{slice}
 use Rattle.integers.proofs.Booleans.{true-holds}
-use Rattle.stage.specs.Answers.{Test, _else_, refusal, outcome}
-use Rattle.stage.specs.Planes.{Plane, Planes, get}
+use Rattle.integers.proofs.Slices.{slice-back}
+use Rattle.stage.specs.declared.Answer.the-variants.{Refused}
+use Rattle.stage.specs.declared.Settings.{Settings}
+use Rattle.stage.specs.Answers.{Test, refusal, outcomeOf}
+use Rattle.stage.specs.Planes.{Planes}
 use Rattle.stage.specs.Steps.{Step, steps, run, undo}
 use Rattle.stage.specs.Ranges.{sampleRanges, finishedRanges, withinRanges, InRanges}
-use Rattle.stage.specs.Transform.{choicesFit, lengths, settings, setup, transformed, untransformed, isPicture, forward, inverse}
-use Rattle.stage.specs.Theorems.{Allowed}
-use Rattle.stage.proofs.Answers.{refusal-holds, refusal-past, refusal-first, outcome-done, outcome-refused, between-iff}
+use Rattle.stage.specs.Transform.{choicesFit, lengths, settingsTests, HasSize, setup, transformed, untransformed, isPicture, inverse}
+use Rattle.stage.proofs.Answers.{Holds, Decides, decides}
+use Rattle.stage.proofs.Validity.{ValidSettings, settings-iff, has-size}
 use Rattle.stage.proofs.Reversal.{steps-cancel}
-use Rattle.stage.proofs.Demand3.{withinRanges-iff, settings-iff, demand3}
-use Rattle.transform.specs.declared.Answer.the-variants.{Done, Refused}
-use Rattle.transform.specs.Between.{stepsBetween, ReadyForward, ReadyBack}
-use Rattle.transform.specs.Calls.{outcomeOf}
-use Rattle.transform.proofs.Between.{between-last, ready-forward, ready-back, ready-again}
+use Rattle.stage.proofs.Demand3.{withinRanges-iff, demand3}
+use Rattle.lifting.specs.Steps.{StepsFit, RunReady, UndoReady}
+use Rattle.lifting.proofs.Readiness.{picture-first, ready-run, ready-inverse, ready-again}
 
--- what holds once the settings are past
-pub record Passed (w h b t : ℕ) (φ : List ℕ) (p : Planes) : Type 0 where
-  pub allowed : Allowed w h b t φ
-  pub least : 2 ≤ b
-  pub most : b ≤ 16
-  pub size : (c : Plane) → length (get p c) ≡ w * h
+module _ (s : Settings) (φ : List ℕ) (p : Planes) where
+  -- the tests of both calls but the last
+  abbrev pub tests : List Test
+  tests = settingsTests s (choicesFit s φ) (lengths p)
 
-module _ (w h b t : ℕ) (φ : List ℕ) (p : Planes) (fit : Bool) (n : ℕ) (f : fit ≡ choicesFit t φ) (e : n ≡ refusal (settings w h b t fit (lengths p))) where
-  abbrev tests : List Test
-  tests = settings w h b t (choicesFit t φ) (lengths p)
+  -- they gave n; then the last test, with its number m, decides
+  pub decided : (n : ℕ) {fit : Bool} → fit ≡ choicesFit s φ → n ≡ refusal (settingsTests s fit (lengths p)) → (last : Bool) (m : ℕ) → T (ltb 0 m) → (result : Planes)
+      → Decides tests last m (tt {0}) result p n
+  decided n f e last m k result =
+      decides tests last m (tt {0}) result p (tt, (tt, (tt, (tt, (tt, (k, tt)))))) n (e ∙ ap (λ (x : Bool). refusal (settingsTests s x (lengths p))) f)
 
-  number : n ≡ refusal tests
-  number = e ∙ ap (λ (x : Bool). refusal (settings w h b t x (lengths p))) f
+  -- all steps, by their number
+  module _ (n : ℕ) (all : n ≡ length (steps (s .transform))) where
+    pub run-all : (x : Planes) → run (setup s φ) (slice (steps (s .transform)) 0 n) x ≡ transformed s φ x
+    unfolding transformed
+    run-all x = ap (λ (l : List Step). run (setup s φ) l x) (slice-back (steps (s .transform)) 0 n all)
 
-  pub passed : n ≡ 0 → Passed w h b t φ p
-  passed z =
-      let k = settings-iff w h b t φ p .0 (refusal-holds tests (tt, (tt, (tt, (tt, (tt, tt))))) (sym number ∙ z)) in
-      let d = between-iff 2 16 b .0 (k .0 .depth) in
-      record { allowed = k .0; least = d .0; most = d .1; size = k .1 }
+    pub undo-all : (x : Planes) → undo (setup s φ) (slice (steps (s .transform)) 0 n) x ≡ untransformed s φ x
+    unfolding untransformed
+    undo-all x = ap (λ (l : List Step). undo (setup s φ) l x) (slice-back (steps (s .transform)) 0 n all)
 
-  -- a setting refused, whatever is tested after it
-  refused-by : (last : Test) (result : Planes) → (n ≡ 0 → ⊥) → outcomeOf (Refused n) p ≡ outcome (tests ++ last ∷ []) tt result p
-  refused-by last result g = sym (outcome-refused tt result p (tests ++ last ∷ []) n (refusal-first tests (last ∷ []) n number g) g)
+    -- the last test of the inverse, made of planes u that the steps, undone, leave
+    pub undone-test : {u : Planes} {ok found : Bool} → u ≡ undo (setup s φ) (slice (steps (s .transform)) 0 n) p → ok ≡ isPicture s u → ok ≡ found
+        → isPicture s (untransformed s φ p) ≡ found
+    undone-test e i f = ap (isPicture s) (sym (e ∙ undo-all p)) ∙ sym i ∙ f
 
-  pub forward-refused : (n ≡ 0 → ⊥) → outcomeOf (Refused n) p ≡ forward w h b t φ p
-  unfolding forward
-  forward-refused g = refused-by (isPicture b p else 11) (transformed w h t φ p) g
+    -- undone and run again
+    pub restored : {u r : Planes} → u ≡ undo (setup s φ) (slice (steps (s .transform)) 0 n) p → r ≡ run (setup s φ) (slice (steps (s .transform)) 0 n) u → r ≡ p
+    restored {u} e g = g ∙ run-all u ∙ ap (transformed s φ) (e ∙ undo-all p) ∙ steps-cancel s φ p .1
 
-  pub inverse-refused : (n ≡ 0 → ⊥) → outcomeOf (Refused n) p ≡ inverse w h b t φ p
-  unfolding inverse
-  inverse-refused g = refused-by (isPicture b (untransformed w h t φ p) else 12) (untransformed w h t φ p) g
+-- past the tests of the settings
+module _ (s : Settings) (φ : List ℕ) (p : Planes) (h : Holds (tests s φ p)) where
+  pub valid : ValidSettings s (choicesFit s φ) (lengths p)
+  valid = settings-iff s (choicesFit s φ) (lengths p) .0 h
 
-module _ (w h b t : ℕ) (φ : List ℕ) (p : Planes) (k : Passed w h b t φ p) where
-  abbrev all : Bool → ℕ → List Test
-  all ok n = settings w h b t (choicesFit t φ) (lengths p) ++ (ok else n) ∷ []
+  size : HasSize s p
+  size = has-size p valid
 
-  -- past the settings the last test decides
-  last-decides : (ok : Bool) (n : ℕ) → refusal (all ok n) ≡ cond ok 0 n
-  last-decides ok n = refusal-past (settings w h b t (choicesFit t φ) (lengths p)) ((ok else n) ∷ []) (settings-iff w h b t φ p .1 (k .allowed, k .size))
+  pub inverse-outside : withinRanges (finishedRanges s) p ≡ false → outcomeOf (Refused 12) p ≡ inverse s φ p
+  inverse-outside e =
+      sym (demand3 s φ (valid .allowed, valid .choices-fit) p size .outside (λ i. subst T e (withinRanges-iff (finishedRanges s) p .1 i)))
 
-  accepted-by : (ok : Bool) (n : ℕ) (result q : Planes) → ok ≡ true → q ≡ result → outcomeOf Done q ≡ outcome (all ok n) tt result p
-  accepted-by ok n result q e g = ap (outcomeOf Done) g ∙ sym (outcome-done tt result p (all ok n) (last-decides ok n ∙ ap (λ (x : Bool). cond x 0 n) e))
+  module _ (n : ℕ) (all : n ≡ length (steps (s .transform))) where
+    fit : StepsFit s φ 0 n
+    fit = record { transform = valid .allowed .transform-most; order = omega arith; last = omega (arith, all); choices = valid .choices-fit }
 
-  refused-last : (ok : Bool) (n : ℕ) (result q : Planes) → ok ≡ false → q ≡ p → (n ≡ 0 → ⊥) → outcomeOf (Refused n) q ≡ outcome (all ok n) tt result p
-  refused-last ok n result q e g s =
-      ap (outcomeOf (Refused n)) g ∙ sym (outcome-refused tt result p (all ok n) n (sym (last-decides ok n ∙ ap (λ (x : Bool). cond x 0 n) e)) s)
+    pub forward-ready : isPicture s p ≡ true → RunReady s φ 0 n p
+    forward-ready i =
+        ready-run (valid .allowed .depth-most) fit (picture-first (record { size = size; samples = withinRanges-iff (sampleRanges s) p .0 (true-holds i) }))
 
-  run-all : (n : ℕ) → n ≡ length (steps t) → (x : Planes) → run (setup w h φ) (stepsBetween t 0 n) x ≡ transformed w h t φ x
-  unfolding transformed
-  run-all n e x = ap (λ (l : List Step). run (setup w h φ) l x) (between-last t 0 n e)
+    module _ (i : withinRanges (finishedRanges s) p ≡ true) where
+      inside : InRanges (finishedRanges s) p
+      inside = withinRanges-iff (finishedRanges s) p .0 (true-holds i)
 
-  undo-all : (n : ℕ) → n ≡ length (steps t) → (x : Planes) → undo (setup w h φ) (stepsBetween t 0 n) x ≡ untransformed w h t φ x
-  unfolding untransformed
-  undo-all n e x = ap (λ (l : List Step). undo (setup w h φ) l x) (between-last t 0 n e)
+      pub inverse-ready : UndoReady s φ 0 n p
+      inverse-ready = ready-inverse (valid .allowed .depth-most) fit all size inside
 
-  -- ---- forward
-  pub forward-no-picture : isPicture b p ≡ false → outcomeOf (Refused 11) p ≡ forward w h b t φ p
-  unfolding forward
-  forward-no-picture e = refused-last (isPicture b p) 11 (transformed w h t φ p) p e refl (λ x. omega arith)
-
-  pub forward-done : (n : ℕ) (q : Planes) → n ≡ length (steps t) → isPicture b p ≡ true → q ≡ run (setup w h φ) (stepsBetween t 0 n) p → outcomeOf Done q ≡ forward w h b t φ p
-  unfolding forward
-  forward-done n q e i g = accepted-by (isPicture b p) 11 (transformed w h t φ p) q i (g ∙ run-all n e p)
-
-  pub forward-ready : (n : ℕ) → n ≡ length (steps t) → isPicture b p ≡ true → ReadyForward w h (setup w h φ) t 0 n p
-  forward-ready n e i = ready-forward w h b t φ (k .most) 0 n p (withinRanges-iff (sampleRanges b) p .0 (true-holds i)) (k .size)
-
-  -- ---- inverse
-  pub inverse-outside : withinRanges (finishedRanges t b) p ≡ false → outcomeOf (Refused 12) p ≡ inverse w h b t φ p
-  inverse-outside e = sym (demand3 w h b t φ (k .allowed) p (k .size) .outside (λ i. subst T e (withinRanges-iff (finishedRanges t b) p .1 i)))
-
-  module _ (n : ℕ) (e : n ≡ length (steps t)) where
-    module _ (inside : withinRanges (finishedRanges t b) p ≡ true) where
-      ranges : InRanges (finishedRanges t b) p
-      ranges = withinRanges-iff (finishedRanges t b) p .0 (true-holds inside)
-
-      pub inverse-ready : ReadyBack w h (setup w h φ) t 0 n p
-      inverse-ready = subst (λ (m : ℕ). ReadyBack w h (setup w h φ) t 0 m p) (sym e) (ready-back w h b t φ (k .most) p ranges (k .size))
-
-      pub again-ready : (u : Planes) → u ≡ undo (setup w h φ) (stepsBetween t 0 n) p → ReadyForward w h (setup w h φ) t 0 n u
-      again-ready u g =
-          subst (λ (m : ℕ). ReadyForward w h (setup w h φ) t 0 m u) (sym e)
-          (subst (ReadyForward w h (setup w h φ) t 0 (length (steps t)))
-          (sym (g ∙ ap (λ (l : List Step). undo (setup w h φ) l p) (between-last t 0 n e)))
-          (ready-again w h b t φ (k .most) p ranges (k .size)))
-
-    module _ (u : Planes) (g : u ≡ undo (setup w h φ) (stepsBetween t 0 n) p) where
-      undone : u ≡ untransformed w h t φ p
-      undone = g ∙ undo-all n e p
-
-      pub inverse-done : isPicture b u ≡ true → outcomeOf Done u ≡ inverse w h b t φ p
-      unfolding inverse
-      inverse-done i = accepted-by (isPicture b (untransformed w h t φ p)) 12 (untransformed w h t φ p) u (ap (isPicture b) (sym undone) ∙ i) undone
-
-      pub inverse-no-picture : isPicture b u ≡ false → (r : Planes) → r ≡ run (setup w h φ) (stepsBetween t 0 n) u → outcomeOf (Refused 12) r ≡ inverse w h b t φ p
-      unfolding inverse
-      inverse-no-picture i r d =
-          refused-last (isPicture b (untransformed w h t φ p)) 12 (untransformed w h t φ p) r (ap (isPicture b) (sym undone) ∙ i)
-          (d ∙ run-all n e u ∙ ap (transformed w h t φ) undone ∙ steps-cancel w h t φ p .1) (λ x. omega arith)
+      pub again-ready : (u : Planes) → u ≡ undo (setup s φ) (slice (steps (s .transform)) 0 n) p → RunReady s φ 0 n u
+      again-ready u e = ready-again (valid .allowed .depth-most) fit all size inside e

@@ -1,25 +1,15 @@
 -- The settings' tests in their order.
-use mathlib.Core.Path.{_≡_, refl, _∙_}
+use mathlib.Core.Path.{_≡_, _∙_}
 use mathlib.Core.Bool.{Bool, false, _&&_}
 use mathlib.Core.List.{List, [], _∷_}
-use Prim.Native.Nat.{ℕ, zero, suc, _+_, _≤_, _<_}
-use native.Mathlib.Omega.{arith}
+use Prim.Native.Nat.{ℕ, _+_, _≤_, _<_}
 use native.Mathlib.Numerals.{add-one}
 use lib.Dec.{leb}
 use lib.ListN.{length, getD, drop}
 use lib.Seq.{drop-cons}
 use borrow.Author.Tests.{le-leb, lt-leb}
 use Rattle.stage.specs.Answers.{_else_, refusal}
-use Rattle.stage.specs.Steps.{steps, places}
 use Rattle.stage.specs.Transform.{allFilters}
-
--- no transform above 3 has places
-pub no-places : (t : ℕ) → 3 < t → 0 ≡ places (steps t)
-no-places zero h = absurd (omega arith)
-no-places (suc zero) h = absurd (omega arith)
-no-places (suc (suc zero)) h = absurd (omega arith)
-no-places (suc (suc (suc zero))) h = absurd (omega arith)
-no-places (suc (suc (suc (suc t)))) h = refl
 
 -- one choice after another
 next-choice : (l : List ℕ) (i : ℕ) → i < length l → allFilters (drop i l) ≡ (leb (getD l i 0) 12 && allFilters (drop (i + 1) l))

@@ -1,16 +1,12 @@
 -- The code's ranges read as those of 01's definitions.
 use mathlib.Core.Path.{_≡_}
 use Prim.Native.Nat.{ℕ, _^_, _≤_}
+use Rattle.stage.specs.declared.Range.{Range}
 use Rattle.stage.specs.Planes.{Triple, triple}
-use Rattle.stage.specs.Ranges as stage
-use Rattle.transform.specs.declared.ranges.Range.{Range}
 use Rattle.transform.specs.declared.ranges.Ranges.{Ranges}
 
-abbrev pub readRange : Range → stage.Range
-readRange r = record { below = r .below; above = r .above }
-
-abbrev pub readRanges : Ranges → Triple stage.Range
-readRanges r = triple (readRange (r .c1)) (readRange (r .c2)) (readRange (r .c3))
+abbrev pub readRanges : Ranges → Triple Range
+readRanges r = triple (r .c1) (r .c2) (r .c3)
 
 -- a power of two, at most 2^16
 pub record Power (exponent r : ℕ) : Type 0 where

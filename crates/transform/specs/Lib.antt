@@ -1,4 +1,2 @@
 pub mod FinishedRanges
-pub mod Passes
-pub mod Between
 pub mod Calls

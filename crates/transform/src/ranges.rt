@@ -1,19 +1,13 @@
 // Ranges of finished planes (01's table), the widest, and the tests of planes against ranges.
 ghost use mathlib.Core.Path.{_≡_};
-ghost use Prim.Native.Nat.{_+_, _≤_, max};
+ghost use Prim.Native.Nat.{_≤_, max};
 ghost use Rattle.stage.specs.Planes.{triple};
-ghost use Rattle.stage.specs.Ranges.{finishedRanges, widest, withinRanges};
+ghost use Rattle.stage.specs.Ranges.{maxSample, finishedRanges, rangeRow, widest, withinRanges};
+ghost use Rattle.stage.specs.Settings.{Allowed};
 ghost use Rattle.stage.specs.Transform.{isPicture};
-ghost use Rattle.stage.specs.Theorems.{rangeRow};
-ghost use Rattle.transform.specs.FinishedRanges.{readRanges};
-use crate::settings::max_sample;
-use crate::settings::power_of_two;
-
-// −below to above
-pub struct Range {
-    pub below: u32,
-    pub above: u32,
-}
+ghost use Rattle.transform.specs.FinishedRanges.{readRanges, Power};
+use stage::Range;
+use stage::Settings;
 
 // of planes 1, 2 and 3
 pub struct Ranges {
@@ -41,19 +35,36 @@ fn range_row(l1: u32, h1: u32, l2: u32, h2: u32, l3: u32, h3: u32) -> Ranges
     }
 }
 
-// M = 2^b − 1, H = 2^(b−1) and q = 2^(b−2) at depth b.
-pub fn finished_ranges(transform: u32, depth: u32) -> Ranges
-    requires { ⌜ (transform ≤ 3) × (2 ≤ depth) × (depth ≤ 16) ⌝ }
-    ensures { λ r. ⌜ readRanges r ≡ finishedRanges transform depth ⌝ }
+fn power_of_two(exponent: u32) -> u32
+    requires { ⌜ exponent ≤ 16 ⌝ }
+    ensures { λ r. ⌜ Power exponent r ⌝ }
 {
-    let m = max_sample(depth);
-    let h = power_of_two(depth - 1);
-    let q = power_of_two(depth - 2);
+    1u32 << exponent
+}
+
+// M, the highest sample of a depth.
+fn max_sample(depth: u32) -> u32
+    requires { ⌜ depth ≤ 16 ⌝ }
+    ensures { λ r. ⌜ (r ≡ maxSample depth) × (r ≤ 65535) ⌝ }
+{
+    power_of_two(depth) - 1
+}
+
+// M = 2^b − 1, H = 2^(b−1) and q = 2^(b−2) at depth b.
+fn finished_ranges(settings: Settings) -> Ranges
+    requires { ⌜ Allowed settings ⌝ }
+    ensures { λ r. ⌜ readRanges r ≡ finishedRanges settings ⌝ }
+{
+    let m = max_sample(settings.depth);
+    let h = power_of_two(settings.depth - 1);
+    let q = power_of_two(settings.depth - 2);
+    let t = 3 * h;
+    let transform = settings.transform;
     match transform {
-        0 => range_row(m, m, h, 3 * h - 2, m, m),
-        1 => range_row(m, m, 3 * h - 2, 3 * h - 1, 5 * q - 1, 9 * q - 3),
+        0 => range_row(m, m, h, t - 2, m, m),
+        1 => range_row(m, m, t - 2, t - 1, 5 * q - 1, 9 * q - 3),
         2 => range_row(0, m, m, m, m, m),
-        _ => range_row(h - 1, 3 * h - 1, m, m, 3 * h - 1, 3 * h - 2),
+        _ => range_row(h - 1, t - 1, m, m, t - 1, t - 2),
     }
 }
 
@@ -64,31 +75,31 @@ fn larger(a: u32, b: u32) -> u32
 }
 
 // D, the widest range (highest less lowest) of a transform's finished planes.
-pub fn widest(transform: u32, depth: u32) -> u32
-    requires { ⌜ (transform ≤ 3) × (2 ≤ depth) × (depth ≤ 16) ⌝ }
-    ensures { λ r. ⌜ r ≡ widest transform depth ⌝ }
+pub fn widest(settings: Settings) -> u32
+    requires { ⌜ Allowed settings ⌝ }
+    ensures { λ r. ⌜ r ≡ widest settings ⌝ }
 {
-    let r = finished_ranges(transform, depth);
+    let r = finished_ranges(settings);
     larger(
         r.c1.below + r.c1.above,
         larger(r.c2.below + r.c2.above, r.c3.below + r.c3.above),
     )
 }
 
-// Whether the planes hold a picture of a depth.
-pub fn is_picture(c1: &[i32], c2: &[i32], c3: &[i32], depth: u32) -> bool
-    requires { ⌜ depth ≤ 16 ⌝ }
-    ensures { λ r. ⌜ r ≡ isPicture depth (triple (now (c1 .entry)) (now (c2 .entry)) (now (c3 .entry))) ⌝ }
+// Whether the planes hold a picture.
+pub fn is_picture(settings: Settings, c1: &[i32], c2: &[i32], c3: &[i32]) -> bool
+    requires { ⌜ Allowed settings ⌝ }
+    ensures { λ r. ⌜ r ≡ isPicture settings (triple (now (c1 .entry)) (now (c2 .entry)) (now (c3 .entry))) ⌝ }
 {
-    integers::three_fit(c1, c2, c3, depth)
+    integers::three_fit(c1, c2, c3, settings.depth)
 }
 
 // Whether each plane lies in its range of finished planes.
-pub fn in_finished_ranges(c1: &[i32], c2: &[i32], c3: &[i32], transform: u32, depth: u32) -> bool
-    requires { ⌜ (transform ≤ 3) × (2 ≤ depth) × (depth ≤ 16) ⌝ }
-    ensures { λ r. ⌜ r ≡ withinRanges (finishedRanges transform depth) (triple (now (c1 .entry)) (now (c2 .entry)) (now (c3 .entry))) ⌝ }
+pub fn in_finished_ranges(settings: Settings, c1: &[i32], c2: &[i32], c3: &[i32]) -> bool
+    requires { ⌜ Allowed settings ⌝ }
+    ensures { λ r. ⌜ r ≡ withinRanges (finishedRanges settings) (triple (now (c1 .entry)) (now (c2 .entry)) (now (c3 .entry))) ⌝ }
 {
-    let r = finished_ranges(transform, depth);
+    let r = finished_ranges(settings);
     integers::all_within(c1, r.c1.below, r.c1.above)
         & (integers::all_within(c2, r.c2.below, r.c2.above)
             & integers::all_within(c3, r.c3.below, r.c3.above))

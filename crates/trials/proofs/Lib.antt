@@ -1,6 +1,3 @@
-pub mod Suffixes
-pub mod Estimates
-pub mod Tables
-pub mod Ready
-pub mod Choices
+pub mod TrialSteps
+pub mod Filters
 pub mod Rounds

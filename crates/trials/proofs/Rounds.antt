@@ -1,107 +1,135 @@
--- A round a place at a time: the trial planes stand before the place's step, run with the choices as they are.
-use mathlib.Core.Path.{_≡_, refl, sym, ap, ap₂, _∙_, subst}
+-- A round a place at a time: the planes stand before the place's step, run with the choices as they are.
+use mathlib.Core.Path.{_≡_, refl, sym, ap, ap₂, _∙_}
 use mathlib.Core.Bool.{Bool, true, false, cond}
-use mathlib.Core.List.{List, [], _∷_}
-use Prim.Native.Nat.{ℕ, suc, _+_, _≤_, _<_}
+use mathlib.Core.List.{List}
+use Prim.Native.Nat.{ℕ, zero, suc, _+_, _≤_, _<_}
 use native.Mathlib.Omega.{arith}
 use native.Mathlib.Numerals.{add-one}
-use lib.Dec.{T}
-use lib.ListN.{length, drop, set}
+use lib.Dec.{T, ltb}
+use lib.ListN.{length, getD, drop, set, replicate}
+use lib.Seq.{ext-getD}
+use Rattle.integers.specs.Slices.{slice}
+use Rattle.integers.proofs.Slices.{slice-front}
+use Rattle.stage.specs.declared.Settings.{Settings}
 use Rattle.stage.specs.Planes.{Planes}
 use Rattle.stage.specs.Steps.{Step, steps, places, run}
+use Rattle.stage.specs.Ranges.{widest}
 use Rattle.stage.specs.Transform.{setup, choicesFit, transformed}
 use Rattle.stage.specs.Estimate.{pictureEstimate}
-use Rattle.stage.specs.Search.{winner, round, rounds, choicesEstimate}
-use Rattle.transform.proofs.Passes.{choices-fitting}
-use Rattle.transform.proofs.Between.{run-append, between-first}
-use Rattle.transform.specs.Between.{stepsBetween}
-use Rattle.trials.specs.Trials.{hasPlace, stepOf, trialEstimate}
-use Rattle.trials.proofs.Suffixes.{run-rest, run-before}
-use Rattle.trials.proofs.Tables.{step-order}
-use Rattle.trials.proofs.Ready.{between-split, choices-set}
-use Rattle.trials.proofs.Choices.{winner-same, winner-filter}
+use Rattle.stage.specs.Search.{winner, round, rounds, searched, choicesEstimate}
+use Rattle.stage.proofs.Choices.{choices, choices-set}
+use Rattle.stage.proofs.StepLists.{run-split, run-rest}
+use Rattle.estimate.specs.Counting.{Counters}
+use Rattle.lifting.specs.Passes.{stepOf}
+use Rattle.lifting.proofs.Table.{step-order, step-inside}
+use Rattle.trials.specs.Trials.{trialEstimate, Chosen, RoundDone, RoundsDone}
+use Rattle.trials.proofs.TrialSteps.{run-before}
 
-pub step-inside : (l : List Step) (k : ℕ) → stepOf l k ≤ length l
-step-inside [] k = omega arith
-step-inside (s ∷ l) k = pick (hasPlace (s .term) k) (step-inside l k)
+-- the winner depends on the estimates of the choices tried, and on no others
+winner-same : (d e : List ℕ → ℕ) (φ : List ℕ) (k : ℕ) → ((f : ℕ) → d (set φ k f) ≡ e (set φ k f)) → (n : ℕ) → winner d φ k n ≡ winner e φ k n
+unfolding winner
+winner-same d e φ k h zero = refl
+winner-same d e φ k h (suc n) = rw (winner-same d e φ k h n, h n, h (winner e φ k n))
+
+-- a filter wins
+winner-filter : (e : List ℕ → ℕ) (φ : List ℕ) (k n : ℕ) → getD φ k 0 ≤ 12 → n ≤ 13 → winner e φ k n ≤ 12
+unfolding winner
+winner-filter e φ k zero h m = h
+winner-filter e φ k (suc n) h m = pick (ltb (e (set φ k n)) (e (set φ k (winner e φ k n)))) (winner-filter e φ k n h (omega arith))
   where
-    pick : (b : Bool) → stepOf l k ≤ length l → cond b 0 (suc (stepOf l k)) ≤ suc (length l)
-    pick true h = omega arith
-    pick false h = omega arith
+    pick : (b : Bool) → winner e φ k n ≤ 12 → cond b n (winner e φ k n) ≤ 12
+    pick true i = omega arith
+    pick false i = i
 
-module _ (w h t : ℕ) (p : Planes) where
+-- counters that are zero before and after are the same
+pub zero-same : {d e : ℕ} {l m : List ℕ} → Counters d l → Counters e m → length m ≡ length l → m ≡ l
+zero-same {d} {e} {l} {m} x y h = ext-getD 0 m l h (λ i _. y .zero .each i ∙ sym (x .zero .each i))
+
+module _ (s : Settings) (p : Planes) where
+  abbrev l : List Step
+  l = steps (s .transform)
+
   abbrev estimates : List ℕ → ℕ
-  estimates = choicesEstimate w h t p
+  estimates = choicesEstimate s p
 
-  -- the planes before step s
+  -- the planes before step j
   abbrev pub before : List ℕ → ℕ → Planes
-  before φ s = run (setup w h φ) (stepsBetween t 0 s) p
+  before φ j = run (setup s φ) (slice l 0 j) p
 
-  pub before-next : (φ : List ℕ) (i s : ℕ) (q r : Planes) → i ≤ s → q ≡ before φ i → r ≡ run (setup w h φ) (stepsBetween t i s) q → r ≡ before φ s
-  before-next φ i s q r o e f =
-      let σ = setup w h φ in
-      f ∙ ap (run σ (stepsBetween t i s)) e ∙ sym (run-append σ (stepsBetween t 0 i) (stepsBetween t i s) p)
-      ∙ ap (λ (l : List Step). run σ l p) (sym (between-split t 0 i s (omega arith) o))
+  pub before-next : (φ : List ℕ) (i j : ℕ) (q r : Planes) → i ≤ j → q ≡ before φ i → r ≡ run (setup s φ) (slice l i j) q → r ≡ before φ j
+  before-next φ i j q r h e f = f ∙ ap (run (setup s φ) (slice l i j)) e ∙ sym (run-split (setup s φ) l 0 i j p (omega arith) h)
 
   -- the estimate of the choices that the planes were run with
-  pub rest-estimate : (φ : List ℕ) (s : ℕ) (q : Planes) → q ≡ before φ s → trialEstimate w h t s q φ ≡ estimates φ
+  pub rest-estimate : (φ : List ℕ) (j : ℕ) (q : Planes) → q ≡ before φ j → trialEstimate s j q φ ≡ estimates φ
   unfolding trialEstimate choicesEstimate transformed
-  rest-estimate φ s q e =
-      let σ = setup w h φ in
-      ap (pictureEstimate w) (ap (run σ (drop s (steps t))) (e ∙ ap (λ (l : List Step). run σ l p) (between-first t s)) ∙ run-rest σ s (steps t) p)
+  rest-estimate φ j q e =
+      let σ = setup s φ in
+      ap (pictureEstimate (s .width)) (ap (run σ (drop j l)) (e ∙ ap (λ (m : List Step). run σ m p) (slice-front l j)) ∙ run-rest σ j l p)
 
-  -- another filter at the place of step s
-  pub before-same : (φ : List ℕ) (k f s : ℕ) → s ≡ stepOf (steps t) k → before (set φ k f) s ≡ before φ s
-  before-same φ k f s e = rw (between-first t s, e) (run-before w h φ k f (steps t) p)
+  -- another filter at the place of step j
+  before-same : (φ : List ℕ) (k f j : ℕ) → j ≡ stepOf l k → before (set φ k f) j ≡ before φ j
+  before-same φ k f j e = rw (slice-front l j, e) (run-before s φ k f l p)
 
-  pub place-estimate : (φ : List ℕ) (k f s : ℕ) (q : Planes) → s ≡ stepOf (steps t) k → q ≡ before φ s → trialEstimate w h t s q (set φ k f) ≡ estimates (set φ k f)
-  place-estimate φ k f s q e g = rest-estimate (set φ k f) s q (g ∙ sym (before-same φ k f s e))
+  place-estimate : (φ : List ℕ) (k f j : ℕ) (q : Planes) → j ≡ stepOf l k → q ≡ before φ j → trialEstimate s j q (set φ k f) ≡ estimates (set φ k f)
+  place-estimate φ k f j q e g = rest-estimate (set φ k f) j q (g ∙ sym (before-same φ k f j e))
 
   -- between the places of a round: the first k are done, the planes stand before step i, x is the choices' estimate
-  pub record AtPlace (k i : ℕ) (q : Planes) (φ ψ : List ℕ) (x : ℕ) : Type 0 where
+  pub record AtPlace (k i : ℕ) (q : Planes) (φ ψ : List ℕ) (x : ℕ) (m : List ℕ) : Type 0 where
     pub choices : ψ ≡ round estimates k φ
     pub planes : q ≡ before ψ i
     pub estimate : x ≡ estimates ψ
-    pub fit : T (choicesFit t ψ)
-    pub order : k < places (steps t) → i ≤ stepOf (steps t) k
-    pub inside : i ≤ length (steps t)
+    pub fit : T (choicesFit s ψ)
+    pub order : k < places l → i ≤ stepOf l k
+    pub inside : i ≤ length l
+    pub counters : Counters (widest s) m
 
-  pub first-place : (φ : List ℕ) (x : ℕ) → T (choicesFit t φ) → x ≡ estimates φ → AtPlace 0 0 p φ φ x
+  pub first-place : (φ : List ℕ) (x : ℕ) (m : List ℕ) → T (choicesFit s φ) → x ≡ estimates φ → Counters (widest s) m → AtPlace 0 0 p φ φ x m
   unfolding round
-  first-place φ x f e = record { choices = refl; planes = refl; estimate = e; fit = f; order = λ b. omega arith; inside = omega arith }
+  first-place φ x m f e z = record { choices = refl; planes = refl; estimate = e; fit = f; order = λ b. omega arith; inside = omega arith; counters = z }
 
-  -- the place's winner is chosen
-  pub next-place : (k i s : ℕ) (q r r' : Planes) (φ ψ χ : List ℕ) (x y : ℕ) → AtPlace k i q φ ψ x → k < places (steps t) → s ≡ stepOf (steps t) k
-      → r ≡ before ψ s → r' ≡ r → χ ≡ set ψ k (winner (trialEstimate w h t s r) ψ k 13) → y ≡ trialEstimate w h t s r χ → AtPlace (k + 1) s r' φ χ y
+  -- the place's winner is chosen, with planes r that stand before its step j
+  pub next-place : {k i j : ℕ} {q r r' : Planes} {φ ψ χ : List ℕ} {x y : ℕ} {m n : List ℕ} → AtPlace k i q φ ψ x m → k < places l → j ≡ stepOf l k → r ≡ before ψ j
+      → Chosen s j k r ψ y r' χ n → AtPlace (k + 1) j r' φ χ y n
   unfolding round
-  next-place k i s q r r' φ ψ χ x y a b e f g c d =
-      let m : χ ≡ set ψ k (winner estimates ψ k 13) = c ∙ ap (set ψ k) (winner-same (trialEstimate w h t s r) estimates ψ k (λ j. place-estimate ψ k j s r e f) 13) in
-      let n = winner estimates ψ k 13 in record {
-        choices = rw (add-one k) (m ∙ ap (λ (l : List ℕ). set l k (winner estimates l k 13)) (a .choices));
-        planes = g ∙ f ∙ sym (ap (λ (l : List ℕ). before l s) m ∙ before-same ψ k n s e);
-        estimate = d ∙ ap (trialEstimate w h t s r) m ∙ place-estimate ψ k n s r e f ∙ ap estimates (sym m);
-        fit = subst (λ (l : List ℕ). T (choicesFit t l)) (sym m) (choices-set t ψ (a .fit) k n (winner-filter estimates ψ k 13 (choices-fitting t ψ (a .fit) .most k) (omega arith)));
-        order = λ j. rw e (step-order t k j);
-        inside = rw e (step-inside (steps t) k);
+  next-place {k} {i} {j} {q} {r} {r'} {φ} {ψ} {χ} a b e f d =
+      let w = winner estimates ψ k 13 in
+      let c : χ ≡ set ψ k w = d .choices ∙ ap (set ψ k) (winner-same (trialEstimate s j r) estimates ψ k (λ g. place-estimate ψ k g j r e f) 13) in
+      record {
+        choices = rw (add-one k) (c ∙ ap (λ (m : List ℕ). set m k (winner estimates m k 13)) (a .choices));
+        planes = d .found .planes ∙ f ∙ sym (ap (λ (m : List ℕ). before m j) c ∙ before-same ψ k w j e);
+        estimate = d .found .estimate ∙ ap (trialEstimate s j r) c ∙ place-estimate ψ k w j r e f ∙ ap estimates (sym c);
+        fit = rw c (choices-set s ψ (a .fit) k w (winner-filter estimates ψ k 13 (choices s ψ (a .fit) .filters k) (omega arith)));
+        order = λ h. rw e (step-order (s .transform) k h);
+        inside = rw e (step-inside l k);
+        counters = d .found .counters;
       }
 
   -- between the rounds: k are done, the planes hold the picture
-  pub record AfterRounds (k : ℕ) (q : Planes) (φ ψ : List ℕ) (x : ℕ) : Type 0 where
-    pub choices : ψ ≡ rounds estimates (places (steps t)) k φ
-    pub planes : q ≡ p
-    pub estimate : x ≡ estimates ψ
-    pub fit : T (choicesFit t ψ)
+  abbrev pub AfterRounds : ℕ → List ℕ → ℕ → Planes → List ℕ → List ℕ → Type 0
+  AfterRounds k φ x q ψ m = RoundsDone s p (rounds estimates (places l) k φ) x q ψ m
 
-  pub first-round : (φ : List ℕ) (x : ℕ) → T (choicesFit t φ) → x ≡ estimates φ → AfterRounds 0 p φ φ x
+  pub first-round : (φ : List ℕ) (x : ℕ) (m : List ℕ) → T (choicesFit s φ) → x ≡ estimates φ → Counters (widest s) m → AfterRounds 0 φ x p φ m
   unfolding rounds
-  first-round φ x f e = record { choices = refl; planes = refl; estimate = e; fit = f }
+  first-round φ x m f e z = record { choices = refl; fit = f; estimate = e; planes = refl; counters = z }
 
-  pub next-round : (k : ℕ) (q r : Planes) (φ ψ χ : List ℕ) (x y : ℕ) → AfterRounds k q φ ψ x → r ≡ q → χ ≡ round (choicesEstimate w h t q) (places (steps t)) ψ
-      → y ≡ choicesEstimate w h t q χ → T (choicesFit t χ) → AfterRounds (k + 1) r φ χ y
+  pub next-round : (k : ℕ) (φ : List ℕ) {q r : Planes} {ψ χ : List ℕ} {x y : ℕ} {m n : List ℕ} → AfterRounds k φ x q ψ m → RoundDone s q ψ y r χ n → AfterRounds (k + 1) φ y r χ n
   unfolding rounds
-  next-round k q r φ ψ χ x y a g c d f = record {
-    choices = rw (add-one k) (c ∙ ap₂ (λ (z : Planes) (l : List ℕ). round (choicesEstimate w h t z) (places (steps t)) l) (a .planes) (a .choices));
-    planes = g ∙ a .planes;
-    estimate = d ∙ ap (λ (z : Planes). choicesEstimate w h t z χ) (a .planes);
-    fit = f;
+  next-round k φ {q} {r} {ψ} {χ} a d = record {
+    choices = rw (add-one k) (d .choices ∙ ap₂ (λ (z : Planes) (m : List ℕ). round (choicesEstimate s z) (places l) m) (a .planes) (a .choices));
+    fit = d .fit;
+    estimate = d .estimate ∙ ap (λ (z : Planes). choicesEstimate s z χ) (a .planes);
+    planes = d .planes ∙ a .planes;
+    counters = d .counters;
   }
+
+-- a trial of all steps
+pub trial-first : (s : Settings) (p : Planes) (φ : List ℕ) → trialEstimate s 0 p φ ≡ choicesEstimate s p φ
+unfolding trialEstimate choicesEstimate transformed
+trial-first s p φ = refl
+
+-- the rounds of a search start with filter 0 at every place
+pub searched-is : (s : Settings) (n : ℕ) (φ : List ℕ) {p q : Planes} {ψ χ : List ℕ} → length φ ≡ places (steps (s .transform)) → ψ ≡ replicate (length φ) 0 → q ≡ p
+    → χ ≡ rounds (choicesEstimate s q) (places (steps (s .transform))) n ψ → χ ≡ searched (choicesEstimate s p) (places (steps (s .transform))) n
+unfolding searched
+searched-is s n φ h e f g =
+    g ∙ ap₂ (λ (x : Planes) (m : List ℕ). rounds (choicesEstimate s x) (places (steps (s .transform))) n m) f (e ∙ ap (λ (m : ℕ). replicate {A = ℕ} m 0) h)

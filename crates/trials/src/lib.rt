@@ -1,4 +1,82 @@
-// Trials of filters, places and rounds of the search (01, "Estimate and search"), on trial planes that hold a picture.
-pub mod place;
-pub mod round;
-pub mod trial;
+// The filter search and the estimate of choices (01, "Estimate and search"), on three planes that hold a picture and are left as they
+// were, with counters that are zero before and after.
+mod place;
+mod round;
+mod trial;
+
+ghost use mathlib.Core.Path.{_≡_};
+ghost use lib.Dec.{T};
+ghost use lib.ListN.{length, replicate};
+ghost use Rattle.stage.specs.Planes.{triple};
+ghost use Rattle.stage.specs.Steps.{steps, places};
+ghost use Rattle.stage.specs.Transform.{choicesFit};
+ghost use Rattle.trials.specs.Searches.{PictureReady, FinishedFound, EstimateFound, SearchFound};
+use round::rounds;
+use stage::Settings;
+use trial::base_estimate;
+use trial::finish;
+use trial::trial;
+
+// The estimate of a picture under choices, on planes that need not be kept: they are left with all steps run.
+pub fn finished_estimate(
+    settings: Settings,
+    choices: &[u8],
+    c1: &mut [i32],
+    c2: &mut [i32],
+    c3: &mut [i32],
+    counters: &mut [u32],
+) -> u32
+    requires { ⌜ PictureReady settings (triple (now c1) (now c2) (now c3)) (now counters) ⌝ }
+    requires { ⌜ T (choicesFit settings (now choices)) ⌝ }
+    ensures { λ r. ⌜ FinishedFound settings (triple (now (c1 .entry)) (now (c2 .entry)) (now (c3 .entry))) (now (counters .entry)) (now (choices .entry)) r (now (counters .exit)) ⌝ }
+{
+    let table = logs::table();
+    let base = base_estimate(c1, c2, c3, settings, 0, counters, &table);
+    finish(c1, c2, c3, settings, 0, base, choices, counters, &table)
+}
+
+// The same on planes that are left as they were.
+pub fn estimate_picture(
+    settings: Settings,
+    choices: &[u8],
+    c1: &mut [i32],
+    c2: &mut [i32],
+    c3: &mut [i32],
+    counters: &mut [u32],
+) -> u32
+    requires { ⌜ PictureReady settings (triple (now c1) (now c2) (now c3)) (now counters) ⌝ }
+    requires { ⌜ T (choicesFit settings (now choices)) ⌝ }
+    ensures { λ r. ⌜ EstimateFound settings (triple (now (c1 .entry)) (now (c2 .entry)) (now (c3 .entry))) (now (counters .entry)) (now (choices .entry)) r (triple (now (c1 .exit)) (now (c2 .exit)) (now (c3 .exit))) (now (counters .exit)) ⌝ }
+{
+    let table = logs::table();
+    let base = base_estimate(c1, c2, c3, settings, 0, counters, &table);
+    trial(c1, c2, c3, settings, 0, base, choices, counters, &table)
+}
+
+fn clear_choices(choices: &mut [u8])
+    ensures { λ _. ⌜ now (choices .exit) ≡ replicate (length (now (choices .entry))) 0 ⌝ }
+{
+    for i in 0..choices.len() {
+        choices[i] = 0;
+    }
+}
+
+// The winning filters of a picture, left in the choices, and their estimate. What the choices hold on entry does not matter.
+pub fn search_picture(
+    settings: Settings,
+    count: u32,
+    choices: &mut [u8],
+    c1: &mut [i32],
+    c2: &mut [i32],
+    c3: &mut [i32],
+    counters: &mut [u32],
+) -> u32
+    requires { ⌜ PictureReady settings (triple (now c1) (now c2) (now c3)) (now counters) ⌝ }
+    requires { ⌜ length (now choices) ≡ places (steps (settings .transform)) ⌝ }
+    ensures { λ r. ⌜ SearchFound settings count (triple (now (c1 .entry)) (now (c2 .entry)) (now (c3 .entry))) (now (counters .entry)) r (now (choices .exit)) (triple (now (c1 .exit)) (now (c2 .exit)) (now (c3 .exit))) (now (counters .exit)) ⌝ }
+{
+    clear_choices(choices);
+    let e = estimate_picture(settings, choices, c1, c2, c3, counters);
+    let table = logs::table();
+    rounds(c1, c2, c3, settings, count, e, choices, counters, &table)
+}

@@ -1,22 +1,26 @@
 // A place: filters 0 to 12 tried with the others held.
 ghost use mathlib.Core.Path.{_≡_};
-ghost use Prim.Native.Nat.{_<_, _≤_};
-ghost use lib.Dec.{T};
-ghost use lib.ListN.{length, drop, set};
 ghost use Rattle.stage.specs.Planes.{triple};
 ghost use Rattle.stage.specs.Steps.{steps};
-ghost use Rattle.stage.specs.Transform.{choicesFit};
-ghost use Rattle.stage.specs.Logarithm.{Logarithms};
-ghost use Rattle.stage.specs.Search.{winner};
-ghost use Rattle.trials.specs.Trials.{changed, others, partEstimate, trialEstimate, TrialPlanes, PartAnswer, Counters};
-ghost use Rattle.trials.specs.Code.{leads};
+ghost use Rattle.lifting.specs.Passes.{stepOf};
+ghost use Rattle.trials.specs.Trials.{leads, FilterReady, FilterTried, ChooseReady, Chosen};
 use crate::trial::base_estimate;
 use crate::trial::trial;
+use lifting::passes::step_of;
+use stage::Settings;
 
 // The filter that leads at a place, and its estimate.
 pub struct Best {
     pub filter: u8,
     pub estimate: u32,
+}
+
+// A place and its step, the estimate of the planes that no step from there on changes, and the present filter.
+pub struct Place {
+    pub place: usize,
+    pub step: usize,
+    pub base: u32,
+    pub present: Best,
 }
 
 // A filter takes the lead only with a lower estimate.
@@ -34,102 +38,67 @@ fn better(best: Best, filter: u8, estimate: u32) -> Best
 
 // The estimate with a filter at a place. The present filter's is known, and not found again.
 fn try_filter(
-    t1: &mut [i32],
-    t2: &mut [i32],
-    t3: &mut [i32],
+    c1: &mut [i32],
+    c2: &mut [i32],
+    c3: &mut [i32],
+    settings: Settings,
+    at: Place,
+    filter: u8,
+    choices: &mut [u8],
     counters: &mut [u32],
     table: &[u16; 4096],
-    choices: &mut [u8],
-    width: usize,
-    height: usize,
-    transform: u32,
-    d: u32,
-    step: usize,
-    base: u32,
-    place: usize,
-    present: Best,
-    filter: u8,
 ) -> u32
-    requires { ⌜ TrialPlanes width height transform d step (triple (now t1) (now t2) (now t3)) ⌝ }
-    requires { ⌜ (step ≤ length (steps transform)) × T (choicesFit transform (now choices)) × (place < length (now choices)) × (filter ≤ 12) ⌝ }
-    requires { ⌜ Counters d (now counters) × Logarithms (now table) ⌝ }
-    requires { ⌜ PartAnswer (partEstimate width (others (changed (drop step (steps transform)))) (triple (now t1) (now t2) (now t3))) base ⌝ }
-    requires { ⌜ present .estimate ≡ trialEstimate width height transform step (triple (now t1) (now t2) (now t3)) (set (now choices) place (present .filter)) ⌝ }
-    ensures { λ r. ⌜ r ≡ trialEstimate width height transform step (triple (now (t1 .entry)) (now (t2 .entry)) (now (t3 .entry))) (set (now (choices .entry)) place filter) ⌝ }
-    ensures { λ _. ⌜ now (choices .exit) ≡ set (now (choices .entry)) place filter ⌝ }
-    ensures { λ _. ⌜ triple (now (t1 .exit)) (now (t2 .exit)) (now (t3 .exit)) ≡ triple (now (t1 .entry)) (now (t2 .entry)) (now (t3 .entry)) ⌝ }
-    ensures { λ _. ⌜ Counters d (now (counters .exit)) ⌝ }
+    requires { ⌜ FilterReady settings at filter (triple (now c1) (now c2) (now c3)) (now choices) (now counters) (now table) ⌝ }
+    ensures { λ r. ⌜ FilterTried settings at filter (triple (now (c1 .entry)) (now (c2 .entry)) (now (c3 .entry))) (now (choices .entry)) r (triple (now (c1 .exit)) (now (c2 .exit)) (now (c3 .exit))) (now (choices .exit)) (now (counters .exit)) ⌝ }
 {
+    let place = at.place;
     choices[place] = filter;
-    if filter == present.filter {
-        return present.estimate;
+    if filter == at.present.filter {
+        return at.present.estimate;
     }
     trial(
-        t1,
-        t2,
-        t3,
+        c1,
+        c2,
+        c3,
+        settings,
+        at.step,
+        at.base,
+        choices,
         counters,
         table,
-        choices,
-        width,
-        height,
-        transform,
-        d,
-        step,
-        base,
     )
 }
 
-// The winner at a place, for trial planes that stand before the place's step. `estimate` is that of the present filter; the
-// answer is the winner's.
+// The winner at a place, for planes that stand before the place's step. `estimate` is that of the present filter; the answer is the
+// winner's.
 pub fn choose(
-    t1: &mut [i32],
-    t2: &mut [i32],
-    t3: &mut [i32],
-    counters: &mut [u32],
-    table: &[u16; 4096],
-    choices: &mut [u8],
-    width: usize,
-    height: usize,
-    transform: u32,
-    d: u32,
-    step: usize,
+    c1: &mut [i32],
+    c2: &mut [i32],
+    c3: &mut [i32],
+    settings: Settings,
     place: usize,
     estimate: u32,
+    choices: &mut [u8],
+    counters: &mut [u32],
+    table: &[u16; 4096],
 ) -> u32
-    requires { ⌜ TrialPlanes width height transform d step (triple (now t1) (now t2) (now t3)) ⌝ }
-    requires { ⌜ (step ≤ length (steps transform)) × T (choicesFit transform (now choices)) × (place < length (now choices)) ⌝ }
-    requires { ⌜ Counters d (now counters) × Logarithms (now table) ⌝ }
-    requires { ⌜ estimate ≡ trialEstimate width height transform step (triple (now t1) (now t2) (now t3)) (now choices) ⌝ }
-    ensures { λ r. ⌜ r ≡ trialEstimate width height transform step (triple (now (t1 .entry)) (now (t2 .entry)) (now (t3 .entry))) (now (choices .exit)) ⌝ }
-    ensures { λ _. ⌜ now (choices .exit) ≡ set (now (choices .entry)) place (winner (trialEstimate width height transform step (triple (now (t1 .entry)) (now (t2 .entry)) (now (t3 .entry)))) (now (choices .entry)) place 13) ⌝ }
-    ensures { λ _. ⌜ triple (now (t1 .exit)) (now (t2 .exit)) (now (t3 .exit)) ≡ triple (now (t1 .entry)) (now (t2 .entry)) (now (t3 .entry)) ⌝ }
-    ensures { λ _. ⌜ Counters d (now (counters .exit)) ⌝ }
+    requires { ⌜ ChooseReady settings place estimate (triple (now c1) (now c2) (now c3)) (now choices) (now counters) (now table) ⌝ }
+    ensures { λ r. ⌜ Chosen settings (stepOf (steps (settings .transform)) place) place (triple (now (c1 .entry)) (now (c2 .entry)) (now (c3 .entry))) (now (choices .entry)) r (triple (now (c1 .exit)) (now (c2 .exit)) (now (c3 .exit))) (now (choices .exit)) (now (counters .exit)) ⌝ }
 {
-    let base = base_estimate(t1, t2, t3, width, d, transform, step, counters, table);
+    let step = step_of(settings.transform, place);
     let present = Best {
         filter: choices[place],
         estimate: estimate,
     };
+    let at = Place {
+        place: place,
+        step: step,
+        base: base_estimate(c1, c2, c3, settings, step, counters, table),
+        present: present,
+    };
     let mut best = present;
     for filter in 0..13 {
-        let e = try_filter(
-            t1,
-            t2,
-            t3,
-            counters,
-            table,
-            choices,
-            width,
-            height,
-            transform,
-            d,
-            step,
-            base,
-            place,
-            present,
-            filter,
-        );
+        let e = try_filter(c1, c2, c3, settings, at, filter, choices, counters, table);
         best = better(best, filter, e);
     }
     choices[place] = best.filter;

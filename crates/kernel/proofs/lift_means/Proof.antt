@@ -1,39 +1,57 @@
 use borrow.Author.Needs.{needs}
-use mathlib.Core.Path.{_≡_, refl, ap}
+use mathlib.Core.Path.{_≡_, refl, ap, _∙_}
+use mathlib.Core.List.{List}
 use native.Mathlib.Omega.{arith}
-use native.Mathlib.Nat.{mul-le-mul-right, add-mul}
+use native.Mathlib.Nat.{mul-le-mul-right}
 use Prim.Native.Nat.{ℕ, _-_, _*_, _≤_}
-use Rattle.integers.specs.Lists.{Changed}
-use Rattle.integers.proofs.Changes.{changed-none, changed-join, changed-as}
+use denote.Ref.{now}
+use lib.IntN.{ℤ}
+use Rattle.integers.proofs.Changes.{changed-as}
 use Rattle.stage.specs.Filter.{mean}
 use Rattle.kernel.specs.Pass.{applied}
-use Rattle.kernel.proofs.Part.{all-part, part-after}
+use Rattle.kernel.proofs.Segments.{rows-segment, segment-rest, Progress, progress-none, progress-join}
+use Rattle.kernel.proofs.Windows.{filtered-mean}
 use Rattle.kernel.proofs.lift_means.Statement.{statement}
 use Rattle.kernel.proofs.lift_means.Tie as tie
 
+-- rows from to y − 1 are done
+record RowsDone (p w from to y : ℕ) (f : ℕ → ℤ) (before after : List ℤ) : Type 0 where
+  most : y ≤ to
+  done : Progress p f (from * w) (to * w) (y * w) before after
+
 abbrev Inv-loop : tie.InvT-loop
-Inv-loop c₀ a width height centre pass from to y₀ c y = (from ≤ y) × (y ≤ to) × Changed (λ i x. applied pass x (mean width height (centre .weight) a i)) (from * width) (y * width) c₀ c
+Inv-loop c₀ a from to width height filter pass centre y₀ c y = RowsDone pass width from to y (mean width height (centre .weight) a) c₀ c
 
 abbrev μ-loop : tie.MeasureT-loop
-μ-loop c₀ a width height centre pass from to y₀ c y = to - y
+μ-loop c₀ a from to width height filter pass centre y₀ c y = to - y
 
--- rows from to y come before row y
-record Rows (c : tie.In-loop Inv-loop μ-loop) : Type 0 where
-  before : c .before .before .args .from * c .before .before .args .width ≤ c .before .loop .y * c .before .before .args .width
+sub-centre-at : tie.Need-sub-centre-at Inv-loop μ-loop
+sub-centre-at c = search needs
 
-known : (c : tie.In-loop Inv-loop μ-loop) → Rows c
-known c = let l = c .before in record { before = mul-le-mul-right (l .before .args .width) (l .loop .inv .0) }
+centre-at-requires : tie.Need-centre-at-requires Inv-loop μ-loop
+centre-at-requires c κs = search needs
 
 loop-holds : tie.Need-loop-holds Inv-loop μ-loop
-loop-holds c = (omega arith, omega arith, changed-none _ _ refl)
+loop-holds c =
+    let s = c .before in
+    let m = mul-le-mul-right (s .args .width) (s .pre .whole .order) in
+    record { most = s .pre .whole .order; done = progress-none m }
 
 lift-row-requires : tie.Need-lift-row-requires Inv-loop μ-loop
 lift-row-requires c κs =
     let l = c .before .before in
-    let p = l .before .pre in
-    let d = l .loop .inv .2 in
-    let e = d .long in
-    ((omega arith, p .0 .2), ((p .1 .0 .0, omega arith), (p .1 .1 .0, (part-after d (all-part _ _ (p .1 .1 .1 .0)) (omega arith), p .1 .1 .1 .1))))
+    let t = l .before in
+    let s = t .before in
+    let p = s .pre .whole in
+    let w = s .args .width in
+    let m = mul-le-mul-right w (c .before .loop-test .taken) in
+    let n = mul-le-mul-right w (p .rows) in
+    record {
+      row = omega arith;
+      size = p .read-size;
+      segment = segment-rest (rows-segment w p) (l .loop .inv .done .done) (omega arith) (omega arith) (omega arith) (omega arith);
+      weights = t .centre-at .ensures .sound;
+    }
 
 add-y : tie.Need-add-y Inv-loop μ-loop
 add-y c = search needs
@@ -45,18 +63,25 @@ loop-again : tie.Need-loop-again Inv-loop μ-loop
 loop-again c =
     let t = c .before .before .before in
     let l = t .before in
-    let s = l .before .args in
-    let r = known t in
-    (omega arith, omega arith, changed-join (l .loop .inv .2) (changed-as _ _ (c .before .lift-row .ensures) refl (omega (arith, add-mul (l .loop .y) 1 (s .width))) (λ n x p q. refl)) (omega arith) (omega (arith, add-mul (l .loop .y) 1 (s .width))))
+    let m = mul-le-mul-right (l .before .before .args .width) (t .loop-test .taken) in
+    record {
+      most = omega arith;
+      done =
+          progress-join (l .loop .inv .done) (omega arith) (omega arith)
+          (changed-as _ _ (c .before .lift-row .ensures) refl (omega arith) (λ n x p q. refl));
+    }
 
 same-length : tie.Need-same-length Inv-loop μ-loop
-same-length c = c .before .loop .inv .2 .long
+same-length c = c .before .loop .inv .done .done .long
 
 returns : tie.Need-returns Inv-loop μ-loop
 returns c =
     let l = c .before in
-    let e : l .loop .y ≡ l .before .args .to = omega arith in
-    changed-as _ _ (l .loop .inv .2) refl (ap (λ (n : ℕ). n * l .before .args .width) e) (λ n x p q. refl)
+    let t = l .before in
+    let s = t .before .args in
+    let e : l .loop .y ≡ s .to = omega arith in
+    changed-as _ _ (l .loop .inv .done .done) refl (ap (λ (n : ℕ). n * s .width) e)
+    (λ i x p q. ap (applied (s .pass) x) (ap (λ (m : ℕ). mean (s .width) (s .height) m (now (s .a)) i) (t .centre-at .ensures .is) ∙ filtered-mean (s .width) (s .height) (s .filter) (now (s .a)) i (t .before .pre .least) (t .before .pre .most)))
 
 pub lift-means-spec : {M : Type 1} → statement M
 lift-means-spec =
@@ -64,6 +89,8 @@ lift-means-spec =
     (tie.spec
     Inv-loop
     μ-loop
+    sub-centre-at
+    centre-at-requires
     loop-holds
     lift-row-requires
     add-y

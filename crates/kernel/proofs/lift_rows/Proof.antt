@@ -1,18 +1,18 @@
 use borrow.Author.Needs.{needs}
-use mathlib.Core.Path.{refl, ap, _∙_}
+use mathlib.Core.Path.{_≡_, refl, ap}
+use mathlib.Core.Logic.{inl, inr}
 use native.Mathlib.Omega.{arith}
 use native.Mathlib.Nat.{mul-le-mul-right}
-use Prim.Native.Nat.{ℕ, _*_, _≤_}
+use Prim.Native.Nat.{_*_, _≤_}
 use denote.Ref.{now}
 use Rattle.integers.proofs.Changes.{changed-as}
-use Rattle.stage.specs.Filter.{mean}
 use Rattle.kernel.specs.Pass.{applied}
-use Rattle.kernel.proofs.Part.{all-part}
-use Rattle.kernel.proofs.Windows.{Entry, entry, filtered-windowless, filtered-mean}
+use Rattle.kernel.proofs.Segments.{rows-segment}
+use Rattle.kernel.proofs.Windows.{filtered-pointwise}
 use Rattle.kernel.proofs.lift_rows.Statement.{statement}
 use Rattle.kernel.proofs.lift_rows.Tie as tie
 
--- the part's ends are in the plane
+-- the rows' ends are in the plane
 record Ends (s : tie.Start) : Type 0 where
   order : s .args .from * s .args .width ≤ s .args .to * s .args .width
   last : s .args .to * s .args .width ≤ s .args .width * s .args .height
@@ -20,35 +20,25 @@ record Ends (s : tie.Start) : Type 0 where
 ends : (s : tie.Start) → Ends s
 ends s =
     let w = s .args .width in
-    let h = mul-le-mul-right w (s .pre .0 .3) in
-    record { order = mul-le-mul-right w (s .pre .0 .2); last = omega arith }
+    let h = mul-le-mul-right w (s .pre .rows) in
+    record { order = mul-le-mul-right w (s .pre .order); last = omega arith }
 
-mul-lift-windowless : tie.Need-mul-lift-windowless
-mul-lift-windowless c = let e = ends (c .before .before) in search needs
+mul-lift-pointwise : tie.Need-mul-lift-pointwise
+mul-lift-pointwise c = let e = ends (c .before .before) in search needs
 
-mul-lift-windowless-2 : tie.Need-mul-lift-windowless-2
-mul-lift-windowless-2 c = let e = ends (c .before .before) in search needs
+mul-lift-pointwise-2 : tie.Need-mul-lift-pointwise-2
+mul-lift-pointwise-2 c = let e = ends (c .before .before) in search needs
 
-lift-windowless-requires : tie.Need-lift-windowless-requires
-lift-windowless-requires c κs =
-    let s = c .before .before in
-    let e = ends s in
-    let p = s .pre in
-    ((e .order, omega arith, omega arith, p .0 .1), (p .1 .1 .0, all-part _ _ (p .1 .1 .1)))
-
-known : (c : tie.At-match-rest) → Entry (c .before .args .filter)
-known c = entry _ (c .before .pre .0 .0) (c .match .rest .1)
-
-sub-centre-at : tie.Need-sub-centre-at
-sub-centre-at c = let k = known (c .before) in search needs
-
-centre-at-requires : tie.Need-centre-at-requires
-centre-at-requires c κs = let k = known (c .before) in omega arith
+lift-pointwise-requires : tie.Need-lift-pointwise-requires
+lift-pointwise-requires c κs = rows-segment 0 (c .before .before .pre)
 
 lift-means-requires : tie.Need-lift-means-requires
 lift-means-requires c κs =
-    let p = c .before .before .before .pre in
-    ((p .0 .2, p .0 .3, p .0 .1), (p .1 .0, (p .1 .1 .0, (p .1 .1 .1, c .centre-at .ensures .0))))
+    let t = c .before in
+    let s = t .before in
+    let none : s .args .filter ≡ 0 → ⊥ = λ e. t .match .rest .1 (inl e) in
+    let null : s .args .filter ≡ 12 → ⊥ = λ e. t .match .rest .1 (inr e) in
+    record { least = omega arith; most = omega arith; whole = s .pre }
 
 same-length : tie.Need-same-length
 same-length c = search needs
@@ -57,29 +47,22 @@ returns : tie.Need-returns
 returns c =
     let t = c .before .before .before in
     let s = t .before .args in
-    changed-as _ _ (c .before .lift-windowless .ensures) refl refl
-    (λ i x p q. ap (applied (s .pass) x) (filtered-windowless (s .width) (s .height) (s .filter) (now (s .a)) i (t .match .keys1)))
+    changed-as _ _ (c .before .lift-pointwise .ensures) refl refl
+    (λ i x p q. ap (applied (s .pass) x) (filtered-pointwise (s .width) (s .height) (s .filter) (now (s .a)) i (t .match .keys1)))
 
 same-length-2 : tie.Need-same-length-2
 same-length-2 c = search needs
 
 returns-2 : tie.Need-returns-2
-returns-2 c =
-    let t = c .before .before .before .before in
-    let s = t .before .args in
-    let e = c .before .before .centre-at .ensures .1 in
-    changed-as _ _ (c .before .lift-means .ensures) refl refl
-    (λ i x p q. ap (applied (s .pass) x) (ap (λ (m : ℕ). mean (s .width) (s .height) m (now (s .a)) i) e ∙ filtered-mean (s .width) (s .height) (s .filter) (now (s .a)) i (t .match .rest .1)))
+returns-2 c = search needs
 
 pub lift-rows-spec : {M : Type 1} → statement M
 lift-rows-spec =
     tie.close
     (tie.spec
-    mul-lift-windowless
-    mul-lift-windowless-2
-    lift-windowless-requires
-    sub-centre-at
-    centre-at-requires
+    mul-lift-pointwise
+    mul-lift-pointwise-2
+    lift-pointwise-requires
     lift-means-requires
     same-length
     returns

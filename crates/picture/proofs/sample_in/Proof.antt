@@ -75,7 +75,7 @@ module _ {M : Type 1} {𝓤 : URA M} {H : Heap 𝓤} {A : Atoms 𝓤} (W : Given
       (and-then ! (load ! (from ! (stop !)) (look ! 2 refl)) (and-then ! (load ! (from ! (stop !)) (look ! 6 refl)) (and-then ! (load ! (from ! (stop !)) (look ! 4 refl)) (no-more !)))) (λ r e′ fits′.
       land ! (from ! (stop !)) (init ! 11 refl (fits′ .0)) $
       move ! (11 ∷ 12 ∷ 9 ∷ 10 ∷ 7 ∷ 8 ∷ 5 ∷ 6 ∷ 3 ∷ 4 ∷ []) $ returns ! (look ! 0 refl) $ freed ! $ freed ! $ freed ! $ freed ! $ freed ! $ free0 ! $
-      by ! (ends W f.ended c y _ r (tt, (tt, (tt, tt))) (factI 𝓤 _ (emp 𝓤) (e′ ∙ ap (λ (l : List ℕ). sampleOf l offset index) (e .raster-is)))))))))))
+      by ! (ends W f.ended c y _ r (tt, (tt, (tt, tt))) (factI 𝓤 _ (emp 𝓤) (e′ ∙ ap (λ (l : List ℕ). sampleOf l offset index) (e .raster-is .bytes-are)))))))))))
 
 pub sample-in-spec : {M : Type 1} → stated.statement M
 unfolding code.routine

@@ -56,7 +56,7 @@ same-length c = c .before .loop .inv .1 .long
 returns : tie.Need-returns Inv-loop μ-loop
 returns c =
     let s = c .before .before .before in
-    filled (s .args .raster .now) (s .args .offset) (c .before .loop .inv .1) (omega (arith, c .before .loop .inv .1 .long)) (s .pre .0) (s .pre .1)
+    filled (s .args .raster .now) (s .args .offset) (c .before .loop .inv .1) (omega (arith, c .before .loop .inv .1 .long)) (s .pre .bytes) (s .pre .within)
 
 pub fill-spec : {M : Type 1} → statement M
 fill-spec =

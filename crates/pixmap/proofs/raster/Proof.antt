@@ -3,13 +3,13 @@ use borrow.Author.Needs.{needs}
 use mathlib.Core.Path.{_∙_}
 use native.Mathlib.Omega.{arith}
 use lib.ListN.{length}
-use Rattle.pixmap.proofs.Places.{part-pointer, part-empty}
-use Rattle.pixmap.proofs.Scans.{raster-none, raster-read}
+use Rattle.pixmap.proofs.HeaderFields.{part-pointer, part-empty}
+use Rattle.pixmap.proofs.Parsing.{raster-none, raster-read}
 use Rattle.pixmap.proofs.raster.Statement.{statement}
 use Rattle.pixmap.proofs.raster.Tie as tie
 
-read-file-requires : tie.Need-read-file-requires
-read-file-requires c κs = search needs
+parse-requires : tie.Need-parse-requires
+parse-requires c κs = search needs
 
 sub-result : tie.Need-sub-result
 sub-result c = search needs
@@ -25,7 +25,7 @@ returns c =
     let s = c .before .before .before in
     let a = s .before .before .args in
     let l = a .file .now in
-    (part-empty l ∙ raster-none l (s .read-file .result) (s .read-file .ensures) (c .before .if1 .taken), part-pointer l (a .file .ptr) (length l) (omega arith))
+    record { bytes-are = part-empty l ∙ raster-none l (s .parse .result) (s .parse .ensures) (c .before .if1 .taken); lent = part-pointer l (a .file .ptr) (length l) (omega arith) }
 
 part-behind-requires : tie.Need-part-behind-requires
 part-behind-requires c κs = search needs
@@ -34,13 +34,13 @@ returns-2 : tie.Need-returns-2
 returns-2 c =
     let s = c .before .before .before in
     let l = s .before .before .args .file .now in
-    (c .part-behind .ensures .0 ∙ raster-read l (s .read-file .result) (s .read-file .ensures) (c .before .if1 .left), c .part-behind .ensures .1)
+    record { bytes-are = c .part-behind .ensures .bytes-are ∙ raster-read l (s .parse .result) (s .parse .ensures) (c .before .if1 .left); lent = c .part-behind .ensures .lent }
 
 pub raster-spec : {M : Type 1} → statement M
 raster-spec =
     tie.close
     (tie.spec
-    read-file-requires
+    parse-requires
     sub-result
     part-result-start
     part-result-end

@@ -1,6 +1,6 @@
--- The report is a part of the text.
+-- The file is a part of the buffer, and the report a part of the text.
 use borrow.Author.Needs.{needs}
-use Rattle.report_text.proofs.Reports.{output-within, output-count}
+use Rattle.report_text.proofs.Reports.{output-within, output-count, printed-part}
 use Rattle.report_text.proofs.print_report.Statement.{statement}
 use Rattle.report_text.proofs.print_report.Tie as tie
 
@@ -29,7 +29,10 @@ write-all-requires : tie.Need-write-all-requires
 write-all-requires c κs = search needs
 
 returns : tie.Need-returns
-returns c = search needs
+returns c =
+    let r = c .before .before .before in
+    let f = r .before .before .before in
+    printed-part (f .read-full .result) _ (search needs) (r .report .ensures)
 
 pub print-report-spec : {M : Type 1} → statement M
 print-report-spec =

@@ -1,138 +1,154 @@
--- `search` is `searchCall`.
 use borrow.Author.Needs.{needs}
-use native.Mathlib.Omega.{arith}
-use mathlib.Core.Path.{_≡_, sym, ap, _∙_, subst}
-use mathlib.Core.Bool.{true}
-use Prim.Native.Nat.{ℕ, _*_, _<_}
-use lib.IntN.{pos}
-use lib.ListN.{length, take, replicate}
+use mathlib.Core.Path.{_≡_, sym, ap, ap₂, _∙_}
+use mathlib.Core.Bool.{Bool, cond}
+use mathlib.Core.List.{List, [], _∷_}
+use Prim.Native.Nat.{ℕ}
+use lib.Dec.{eqb, eqb→eq}
+use lib.ListN.{length}
+use lib.Seq.{length-take-le}
 use denote.Ref.{now}
 use Rattle.integers.proofs.Booleans.{held, failed}
-use Rattle.stage.specs.Planes.{Plane, C1, C2, C3, Planes, triple, get}
-use Rattle.stage.specs.Transform.{isPicture}
-use Rattle.stage.specs.Estimate.{counted}
-use Rattle.stage.specs.Search.{Lent}
+use Rattle.stage.specs.declared.Plane.{Plane}
+use Rattle.stage.specs.declared.Plane.the-variants.{C1, C2, C3}
+use Rattle.stage.specs.Answers.{Test, _else_, refusal, between}
+use Rattle.stage.specs.Planes.{Planes, triple, get}
+use Rattle.stage.specs.Transform.{countFits, lengths, isPicture}
+use Rattle.stage.specs.Search.{Lent, clearedScratch, scratchTests, searchTests, estimated, winners, searchCall}
+use Rattle.stage.proofs.Answers.{holds-append, Decides, decides}
 use Rattle.stage.proofs.Triples.{each-plane}
-use Rattle.estimate.proofs.Calls.{front-picture}
-use Rattle.trials.specs.Trials.{TrialPlanes}
 use Rattle.search.specs.Calls.{lent}
-use Rattle.search.proofs.Whole.{Allowed, allowed, trial-planes, size, lent-cleared, search-refused, search-no-picture, search-done}
+use Rattle.search.proofs.Calls.{refusal-then, success, Passed, passed, Work, room, counted-ready, inside, ready, answered, won, left}
 use Rattle.search.proofs.search.Statement.{statement}
 use Rattle.search.proofs.search.Tie as tie
 
-abbrev start : tie.After-search-refusal → tie.Start
-start c = c .before .before .before
-
-abbrev picture : tie.Start → Planes
-picture s = triple (now (s .args .c1)) (now (s .args .c2)) (now (s .args .c3))
+abbrev planes : tie.Start → Planes
+planes a = triple (now (a .args .c1)) (now (a .args .c2)) (now (a .args .c3))
 
 abbrev trials : tie.Start → Planes
-trials s = triple (now (s .args .t1)) (now (s .args .t2)) (now (s .args .t3))
+trials a = triple (now (a .args .t1)) (now (a .args .t2)) (now (a .args .t3))
 
 abbrev memory : tie.Start → Lent
-memory s = lent (now (s .args .choices)) (now (s .args .t1)) (now (s .args .t2)) (now (s .args .t3)) (now (s .args .counters))
+memory a = lent (now (a .args .choices)) (trials a) (now (a .args .counters))
 
--- no setting or length is refused
-past : (c : tie.Else1) →
-    let s = start (c .before) in
-    let a = s .args in
-    Allowed (a .width) (a .height) (a .depth) (a .transform) (a .rounds) (picture s) (memory s)
-past c =
-    let s = start (c .before) in
-    let a = s .args in
-    allowed (a .width) (a .height) (a .depth) (a .transform) (a .rounds) (picture s) (memory s) (sym (c .before .search-refusal .ensures) ∙ c .if1 .left)
+abbrev fit : tie.Start → Bool
+fit a = countFits (a .args .settings) (length (now (a .args .choices)))
 
--- the planes hold a picture
-samples : (c : tie.Else2) → let s = start (c .before .before .before) in isPicture (s .args .depth) (picture s) ≡ true
-samples c = held (c .before .is-picture .ensures) (c .if2 .left)
+abbrev tests : tie.Start → Bool → List Test
+tests a b = scratchTests (a .args .settings) b (lengths (planes a)) (lengths (trials a)) (length (now (a .args .counters)))
 
-abbrev tested : tie.After-copy-picture → tie.Else2
-tested c = c .before .before .before .before
+abbrev last : tie.Start → List Test
+last a = (between 1 4 (a .args .rounds) else 10) ∷ []
 
-abbrev lent-to : tie.After-copy-picture → tie.Start
-lent-to c = start (tested c .before .before .before)
+abbrev start : tie.After-select2 → tie.Start
+start r = r .before .before .before .before .before .before .before
 
-abbrev passed : tie.After-copy-picture → tie.Else1
-passed c = tested c .before .before
+decision : (r : tie.After-select2) → let a = start r in let s = a .args .settings in let φ = winners s (planes a) (a .args .rounds) in
+    Decides (searchTests s (planes a) (a .args .rounds) (memory a)) (isPicture s (planes a)) 11 (estimated s (planes a) φ)
+    (record { choices = φ; scratch = clearedScratch (memory a .scratch) }) (memory a) (r .select2 .result)
+decision r =
+    let a = start r in
+    let i = r .before .before in
+    let k = length (now (a .args .choices)) in
+    let n = i .before .scratch-refusal .ensures ∙ ap (λ (n : ℕ). refusal (tests a (eqb k n))) (i .before .before .places .ensures) in
+    let m = r .before .select .ensures ∙ ap (λ (t : Bool). cond t 0 10) (i .is-between .ensures) in
+    decides (searchTests (a .args .settings) (planes a) (a .args .rounds) (memory a)) _ 11 _ _ _
+    (tt, (tt, (tt, (tt, (tt, (tt, (tt, (tt, tt)))))))) _
+    (r .select2 .ensures ∙ ap₂ (λ (x y : ℕ). cond (eqb x 0) y x) n m
+    ∙ refusal-then (tests a (fit a)) (last a) (tt, (tt, (tt, (tt, (tt, (tt, tt)))))))
 
--- the trial planes with the picture copied to their front
-abbrev copied : tie.After-copy-picture → Planes
-copied c = let m = c .copy-picture .last in triple (m .0) (m .1 .0) (m .1 .1 .0)
+past : (e : tie.Else1) → let a = start (e .before) in Passed (a .args .settings) (fit a) (planes a) (trials a) (now (a .args .counters))
+past e =
+    let a = start (e .before) in
+    passed (a .args .settings) (fit a) (planes a) (trials a) (now (a .args .counters))
+    (holds-append (tests a (fit a)) (last a) .0 (decision (e .before) .passed (e .if1 .left)) .0)
 
-sizes : (c : tie.After-copy-picture) (x : Plane) → let s = lent-to c in length (get (picture s) x) ≡ s .args .width * s .args .height
-sizes c =
-    let s = lent-to c in
-    let a = s .args in
-    size (a .width) (a .height) (a .depth) (a .transform) (a .rounds) (picture s) (memory s) (past (passed c))
+abbrev tested : tie.After-prepare → tie.Else2
+tested x = x .before .before .before .before .before
 
-fronts : (c : tie.After-copy-picture) →
-    let s = lent-to c in
-    let n = s .args .width * s .args .height in
-    triple (take n (copied c .c1)) (take n (copied c .c2)) (take n (copied c .c3)) ≡ picture s
-fronts c =
-    let a = lent-to c .args in
-    let e = c .copy-picture .ensures in
-    front-picture (a .width * a .height) (now (a .c1)) (now (a .c2)) (now (a .c3)) (copied c .c1) (copied c .c2) (copied c .c3)
-    (sizes c C1) (sizes c C2) (sizes c C3) (e .0) (e .1 .0) (e .1 .1)
+abbrev began : tie.After-prepare → tie.Start
+began x = start (tested x .before .before .before)
 
-as-long : (c : tie.After-copy-picture) (x : Plane) → length (get (copied c) x) ≡ length (get (trials (lent-to c)) x)
-as-long c =
-    let k = c .copy-picture .kept in
-    each-plane (λ (x : Plane). length (get (copied c) x) ≡ length (get (trials (lent-to c)) x)) (k .0) (k .1 .0) (k .1 .1 .0)
+-- the trial planes with the picture
+abbrev copy : tie.After-prepare → Planes
+copy x = let l = x .prepare .last in triple (l .0) (l .1 .0) (l .1 .1 .0)
 
-search-refusal-requires : tie.Need-search-refusal-requires
-search-refusal-requires c κs = search needs
+work : (x : tie.After-prepare) → let a = began x in
+    Work (a .args .settings) (fit a) (planes a) (trials a) (now (a .args .counters)) (copy x) (x .prepare .last .1 .1 .1 .0)
+work x =
+    let i = tested x .before in
+    let k = x .prepare .kept in
+    record {
+      past = past (i .before);
+      picture = held (i .is-picture .ensures) (tested x .if2 .left);
+      prepared = x .prepare .ensures;
+      same = each-plane (λ (c : Plane). length (get (copy x) c) ≡ length (get (trials (began x)) c)) (k .0) (k .1 .0) (k .1 .1 .0);
+    }
+
+abbrev lent-from : tie.After-search-picture-arg → tie.After-prepare
+lent-from c = c .before .before .before .before .before .before
+
+places-requires : tie.Need-places-requires
+places-requires c κs = search needs
+
+scratch-refusal-requires : tie.Need-scratch-refusal-requires
+scratch-refusal-requires c κs = search needs
+
+is-between-requires : tie.Need-is-between-requires
+is-between-requires c κs = search needs
+
+select-requires : tie.Need-select-requires
+select-requires c κs = search needs
+
+select-requires-2 : tie.Need-select-requires-2
+select-requires-2 c κs = search needs
 
 returns : tie.Need-returns
-returns c =
-    let r = c .before in
-    let s = start r in
-    let a = s .args in
-    search-refused (a .width) (a .height) (a .depth) (a .transform) (a .rounds) (picture s) (memory s) (r .search-refusal .result) (r .search-refusal .ensures) (c .if1 .taken)
+unfolding searchCall
+returns c = decision (c .before) .first (c .if1 .taken)
 
 is-picture-requires : tie.Need-is-picture-requires
-is-picture-requires c κs = past c .past .settings .deep
+is-picture-requires c κs = past c .settings .allowed
 
 returns-2 : tie.Need-returns-2
+unfolding searchCall
 returns-2 c =
     let i = c .before in
-    let r = i .before .before in
-    let s = start r in
-    let a = s .args in
-    search-no-picture (a .width) (a .height) (a .depth) (a .transform) (a .rounds) (picture s) (memory s) (r .search-refusal .result) (r .search-refusal .ensures)
-    (i .before .if1 .left) (failed (i .is-picture .ensures) (c .if2 .taken))
+    let e = i .before in
+    decision (e .before) .last (e .if1 .left) (failed (i .is-picture .ensures) (c .if2 .taken))
 
-copy-picture-requires : tie.Need-copy-picture-requires
-copy-picture-requires c κs =
-    let k = past (c .before .before .before .before .before) in
-    let p = k .past in
-    let r = k .room in
-    (omega arith, omega arith, omega arith)
+prepare-requires : tie.Need-prepare-requires
+prepare-requires c κs = room (past (c .before .before .before .before .before .before))
 
-widest-requires : tie.Need-widest-requires
-widest-requires c κs = let k = past (passed (c .before .before .before)) .past .settings in (k .known, k .least, k .deep)
+slice-relend-prefix-search-picture : tie.Need-slice-relend-prefix-search-picture
+slice-relend-prefix-search-picture c = inside (work (lent-from c)) C1
 
-search-scratch-requires : tie.Need-search-scratch-requires
-search-scratch-requires c κs =
-    let w = c .before .before .before .before .before in
-    let x = w .before .before .before .before in
-    let s = lent-to x in
-    let a = s .args in
-    let n = a .width * a .height in
-    let k = past (passed x) in (
-      subst (TrialPlanes (a .width) (a .height) (a .transform) (w .widest .result) 0) (sym (fronts x))
-          (trial-planes (a .width) (a .height) (a .depth) (a .transform) (a .rounds) (picture s) (memory s) (w .widest .result) k (w .widest .ensures) (samples (tested x))),
-      (
-        (subst (λ (d : ℕ). 2 * d < length (now (a .counters))) (sym (w .widest .ensures)) (k .room .enough), k .choices),
-        (omega (arith, k .room, as-long x C1), omega (arith, k .room, as-long x C2), omega (arith, k .room, as-long x C3)),
-      ),
-    )
+slice-aggregate-search-picture : tie.Need-slice-aggregate-search-picture
+slice-aggregate-search-picture c = sym (length-take-le _ _ (inside (work (lent-from (c .before))) C1))
 
-counted-requires : tie.Need-counted-requires
-counted-requires c κs =
-    let k = past (passed (c .before .before .before .before .before .before .before .before .before .before .before .before .before .before .before .before .before)) .past in
-    let s = k .settings in
-    (omega arith, omega arith)
+slice-relend-prefix-search-picture-2 : tie.Need-slice-relend-prefix-search-picture-2
+slice-relend-prefix-search-picture-2 c = inside (work (lent-from (c .before))) C2
+
+slice-aggregate-search-picture-2 : tie.Need-slice-aggregate-search-picture-2
+slice-aggregate-search-picture-2 c = sym (length-take-le _ _ (inside (work (lent-from (c .before .before))) C2))
+
+slice-relend-prefix-search-picture-3 : tie.Need-slice-relend-prefix-search-picture-3
+slice-relend-prefix-search-picture-3 c = inside (work (lent-from (c .before .before))) C3
+
+slice-aggregate-search-picture-3 : tie.Need-slice-aggregate-search-picture-3
+slice-aggregate-search-picture-3 c = sym (length-take-le _ _ (inside (work (lent-from (c .before .before .before))) C3))
+
+search-picture-requires : tie.Need-search-picture-requires
+search-picture-requires c κs =
+    let w = work (lent-from (c .before .before .before .before)) in
+    (ready w, eqb→eq _ _ (w .past .settings .choices-fit))
+
+clear-planes-requires : tie.Need-clear-planes-requires
+clear-planes-requires c κs = search needs
+
+found-requires : tie.Need-found-requires
+found-requires c κs =
+    let y = c .before .before .before .before .before .before .before .before .before .before .before .before .before .before in
+    counted-ready (work (lent-from (y .before .before .before .before .before)) .past)
 
 same-length : tie.Need-same-length
 same-length c = search needs
@@ -150,35 +166,42 @@ same-length-5 : tie.Need-same-length-5
 same-length-5 c = search needs
 
 returns-3 : tie.Need-returns-3
+unfolding searchCall
 returns-3 c =
-    let y = c .before .before .before .before .before .before .before .before in
-    let x = y .before .before .before .before .before .before .before .before .before .before in
-    let s = lent-to x in
-    let a = s .args in
-    let r = passed x .before in
-    let n = a .width * a .height in
-    let m = y .search-scratch .last in
-    let e = y .search-scratch .ensures in
-    let z = triple (m .0) (m .1 .0) (m .1 .1 .0) in
-    search-done (a .width) (a .height) (a .depth) (a .transform) (a .rounds) (picture s) (memory s) (r .search-refusal .result) (r .search-refusal .ensures)
-    (passed x .if1 .left) (samples (tested x)) (triple (take n (copied x .c1)) (take n (copied x .c2)) (take n (copied x .c3))) (fronts x) (y .search-scratch .result)
-    (c .counted .result) (m .1 .1 .1 .1 .0) z (m .1 .1 .1 .0) (e .0) (e .1 .0) (c .counted .ensures ∙ ap counted (sizes x C1))
-    (lent-cleared (trials s) (copied x) z (as-long x)
-    (each-plane (λ (i : Plane). get z i ≡ replicate (length (get (copied x) i)) (pos 0)) (e .1 .1 .0 .0) (e .1 .1 .0 .1) (e .1 .1 .0 .2)))
-    (e .1 .1 .1)
+    let z = c .before .before .before .before in
+    let y = z .before .before .before .before .before .before .before .before .before .before .before in
+    let x = lent-from (y .before .before .before .before .before) in
+    let e = tested x .before .before in
+    let a = began x in
+    let f = y .search-picture .ensures in
+    let φ = won (work x) (a .args .rounds) _ (f .choices) in
+    let m = left (work x) _ _ _ (λ d. ap (λ (y : Planes). length (get y d)) (f .found .planes)) (f .found .counters) (z .clear-planes .ensures) in
+    success (c .found .ensures)
+    (decision (e .before) .succeeds (e .if1 .left) (work x .picture) _ _
+    (answered (work x) _ _ (f .found .estimate) ∙ ap (estimated (a .args .settings) (planes a)) φ) (λ i. record { choices = φ i; scratch = m i }))
 
 pub search-spec : {M : Type 1} → statement M
 search-spec =
     tie.close
     (tie.spec
-    search-refusal-requires
+    places-requires
+    scratch-refusal-requires
+    is-between-requires
+    select-requires
+    select-requires-2
     returns
     is-picture-requires
     returns-2
-    copy-picture-requires
-    widest-requires
-    search-scratch-requires
-    counted-requires
+    prepare-requires
+    slice-relend-prefix-search-picture
+    slice-aggregate-search-picture
+    slice-relend-prefix-search-picture-2
+    slice-aggregate-search-picture-2
+    slice-relend-prefix-search-picture-3
+    slice-aggregate-search-picture-3
+    search-picture-requires
+    clear-planes-requires
+    found-requires
     same-length
     same-length-2
     same-length-3

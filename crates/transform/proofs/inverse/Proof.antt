@@ -1,30 +1,39 @@
 use borrow.Author.Needs.{needs}
-use mathlib.Core.Path.{_≡_, sym, _∙_}
+use mathlib.Core.Path.{_≡_, refl, ap, _∙_}
 use mathlib.Core.Bool.{true}
-use native.Mathlib.Omega.{arith}
 use denote.Ref.{now}
 use Rattle.integers.proofs.Booleans.{held, failed}
+use Rattle.stage.specs.declared.Answer.the-variants.{Refused}
+use Rattle.stage.specs.Answers.{outcomeOf}
 use Rattle.stage.specs.Planes.{Planes, triple}
 use Rattle.stage.specs.Ranges.{finishedRanges, withinRanges}
-use Rattle.transform.proofs.Calls.{Passed, passed, inverse-refused, inverse-outside, inverse-ready, inverse-done, inverse-no-picture, again-ready}
+use Rattle.stage.specs.Transform.{untransformed, isPicture, inverse}
+use Rattle.stage.proofs.Answers.{Holds, Decides}
+use Rattle.transform.proofs.Calls.{tests, decided, valid, undo-all, undone-test, restored, inverse-outside, inverse-ready, again-ready}
 use Rattle.transform.proofs.inverse.Statement.{statement}
 use Rattle.transform.proofs.inverse.Tie as tie
 
 abbrev planes : tie.Start → Planes
 planes a = triple (now (a .args .c1)) (now (a .args .c2)) (now (a .args .c3))
 
--- past the settings
-past : (c : tie.Else1) → let a = c .before .before .before .before in let s = a .args in Passed (s .width) (s .height) (s .depth) (s .transform) (now (s .choices)) (planes a)
-past c =
-    let r = c .before in
-    let f = r .before in
-    let a = f .before .before in
-    let s = a .args in
-    passed (s .width) (s .height) (s .depth) (s .transform) (now (s .choices)) (planes a) _ _ (f .choices-fit .ensures) (r .refusal .ensures) (c .if1 .left)
+abbrev start : tie.After-refusal → tie.Start
+start r = r .before .before .before
+
+decision : (r : tie.After-refusal) → let a = start r in let s = a .args .settings in let φ = now (a .args .choices) in
+    Decides (tests s φ (planes a)) (isPicture s (untransformed s φ (planes a))) 12 (tt {0}) (untransformed s φ (planes a)) (planes a) (r .refusal .result)
+decision r =
+    let a = start r in
+    decided (a .args .settings) (now (a .args .choices)) (planes a) _ (r .before .choices-fit .ensures) (r .refusal .ensures) _ 12 tt _
+
+past : (e : tie.Else1) → let a = start (e .before) in Holds (tests (a .args .settings) (now (a .args .choices)) (planes a))
+past e = decision (e .before) .passed (e .if1 .left)
 
 -- the planes lie in their ranges
-inside : (c : tie.Else2) → let a = c .before .before .before .before .before .before .before .before .before in withinRanges (finishedRanges (a .args .transform) (a .args .depth)) (planes a) ≡ true
+inside : (c : tie.Else2) → let a = start (c .before .before .before .before .before .before) in withinRanges (finishedRanges (a .args .settings)) (planes a) ≡ true
 inside c = held (c .before .in-finished-ranges .ensures) (c .if2 .left)
+
+abbrev tested : tie.After-undo-steps → tie.Else1
+tested u = u .before .before .before .before .before .before .before .before .before .before
 
 choices-fit-requires : tie.Need-choices-fit-requires
 choices-fit-requires c κs = search needs
@@ -33,15 +42,14 @@ refusal-requires : tie.Need-refusal-requires
 refusal-requires c κs = search needs
 
 returns : tie.Need-returns
-returns c =
-    let r = c .before in
-    let f = r .before in
-    let a = f .before .before in
-    let s = a .args in
-    inverse-refused (s .width) (s .height) (s .depth) (s .transform) (now (s .choices)) (planes a) _ _ (f .choices-fit .ensures) (r .refusal .ensures) (c .if1 .taken)
+unfolding inverse
+returns c = decision (c .before) .first (c .if1 .taken)
 
 in-finished-ranges-requires : tie.Need-in-finished-ranges-requires
-in-finished-ranges-requires c κs = let k = past (c .before .before .before) in (k .allowed .transform, k .least, k .most)
+in-finished-ranges-requires c κs =
+    let e = c .before .before .before in
+    let a = start (e .before) in
+    valid (a .args .settings) (now (a .args .choices)) (planes a) (past e) .allowed
 
 same-length : tie.Need-same-length
 same-length c = search needs
@@ -56,28 +64,27 @@ returns-2 : tie.Need-returns-2
 returns-2 c =
     let i = c .before in
     let e = i .before .before .before .before in
-    let a = e .before .before .before .before in
-    let s = a .args in
-    inverse-outside (s .width) (s .height) (s .depth) (s .transform) (now (s .choices)) (planes a) (past e) (failed (i .in-finished-ranges .ensures) (c .if2 .taken))
+    let a = start (e .before) in
+    inverse-outside (a .args .settings) (now (a .args .choices)) (planes a) (past e) (failed (i .in-finished-ranges .ensures) (c .if2 .taken))
 
 step-count-requires : tie.Need-step-count-requires
-step-count-requires c κs = past (c .before .before .before .before .before) .allowed .transform
+step-count-requires c κs =
+    let e = c .before .before .before .before .before in
+    let a = start (e .before) in
+    valid (a .args .settings) (now (a .args .choices)) (planes a) (past e) .allowed .transform-most
 
 undo-steps-requires : tie.Need-undo-steps-requires
 undo-steps-requires c κs =
     let n = c .before .before .before in
-    let i = n .before in
-    let e = i .before .before .before .before .before in
-    let a = e .before .before .before .before in
-    let s = a .args in (
-      (past e .allowed .transform, omega arith, omega (arith, n .step-count .ensures)),
-      (past e .allowed .choices, inverse-ready (s .width) (s .height) (s .depth) (s .transform) (now (s .choices)) (planes a) (past e) _ (n .step-count .ensures) (inside i)),
-    )
+    let e = n .before .before .before .before .before .before in
+    let a = start (e .before) in
+    inverse-ready (a .args .settings) (now (a .args .choices)) (planes a) (past e) _ (n .step-count .ensures) (inside (n .before))
 
 is-picture-requires : tie.Need-is-picture-requires
 is-picture-requires c κs =
-    let n = c .before .before .before .before .before .before .before .before .before .before in
-    past (n .before .before .before .before .before .before) .most
+    let e = tested (c .before .before .before .before .before .before) in
+    let a = start (e .before) in
+    valid (a .args .settings) (now (a .args .choices)) (planes a) (past e) .allowed
 
 same-length-4 : tie.Need-same-length-4
 same-length-4 c = search needs
@@ -89,26 +96,24 @@ same-length-6 : tie.Need-same-length-6
 same-length-6 c = search needs
 
 returns-3 : tie.Need-returns-3
+unfolding inverse
 returns-3 c =
     let i = c .before in
     let u = i .before .before .before .before .before .before .before in
-    let n = u .before .before .before .before in
-    let e = n .before .before .before .before .before .before in
-    let a = e .before .before .before .before in
-    let s = a .args in
-    inverse-done (s .width) (s .height) (s .depth) (s .transform) (now (s .choices)) (planes a) (past e) _ (n .step-count .ensures) _ (u .undo-steps .ensures) (sym (i .is-picture .ensures) ∙ c .if3 .taken)
+    let n = u .before .before .before .before .step-count .ensures in
+    let a = start (tested u .before) in
+    let s = a .args .settings in
+    let φ = now (a .args .choices) in
+    decision (tested u .before) .succeeds (tested u .if1 .left) (undone-test s φ (planes a) _ n (u .undo-steps .ensures) (i .is-picture .ensures) (c .if3 .taken)) tt _ refl
+    (u .undo-steps .ensures ∙ undo-all s φ (planes a) _ n (planes a))
 
 run-steps-requires : tie.Need-run-steps-requires
 run-steps-requires c κs =
-    let i = c .before .before .before .before in
-    let u = i .before .before .before .before .before .before .before in
+    let u = c .before .before .before .before .before .before .before .before .before .before .before in
     let n = u .before .before .before .before in
-    let e = n .before .before .before .before .before .before in
-    let a = e .before .before .before .before in
-    let s = a .args in (
-      (past e .allowed .transform, omega arith, omega (arith, n .step-count .ensures)),
-      (past e .allowed .choices, again-ready (s .width) (s .height) (s .depth) (s .transform) (now (s .choices)) (planes a) (past e) _ (n .step-count .ensures) (inside (n .before)) _ (u .undo-steps .ensures)),
-    )
+    let e = tested u in
+    let a = start (e .before) in
+    again-ready (a .args .settings) (now (a .args .choices)) (planes a) (past e) _ (n .step-count .ensures) (inside (n .before)) _ (u .undo-steps .ensures)
 
 same-length-7 : tie.Need-same-length-7
 same-length-7 c = search needs
@@ -120,16 +125,19 @@ same-length-9 : tie.Need-same-length-9
 same-length-9 c = search needs
 
 returns-4 : tie.Need-returns-4
+unfolding inverse
 returns-4 c =
     let r = c .before .before .before in
     let o = r .before .before .before .before in
     let i = o .before in
     let u = i .before .before .before .before .before .before .before in
     let n = u .before .before .before .before in
-    let e = n .before .before .before .before .before .before in
-    let a = e .before .before .before .before in
-    let s = a .args in
-    inverse-no-picture (s .width) (s .height) (s .depth) (s .transform) (now (s .choices)) (planes a) (past e) _ (n .step-count .ensures) _ (u .undo-steps .ensures) (sym (i .is-picture .ensures) ∙ o .if3 .left) _ (r .run-steps .ensures)
+    let e = tested u in
+    let a = start (e .before) in
+    let s = a .args .settings in
+    let φ = now (a .args .choices) in
+    ap (outcomeOf (Refused 12)) (restored s φ (planes a) _ (n .step-count .ensures) (u .undo-steps .ensures) (r .run-steps .ensures))
+    ∙ decision (e .before) .last (e .if1 .left) (undone-test s φ (planes a) _ (n .step-count .ensures) (u .undo-steps .ensures) (i .is-picture .ensures) (o .if3 .left))
 
 pub inverse-spec : {M : Type 1} → statement M
 inverse-spec =

@@ -5,7 +5,7 @@ use lib.ListN.{length, getD, length-set}
 use denote.Ref.{now}
 use borrow.Author.Needs.{needs}
 use Rattle.estimate.specs.Counting.{entry}
-use Rattle.estimate.proofs.Passes.{FirstPass, occurrences-none, occurrences-more, counter-le}
+use Rattle.estimate.proofs.Occurrences.{FirstPass, occurrences-none, occurrences-more, counter-le}
 use Rattle.estimate.proofs.histogram.count.Statement.{statement}
 use Rattle.estimate.proofs.histogram.count.Tie as tie
 

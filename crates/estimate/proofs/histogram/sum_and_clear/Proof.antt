@@ -8,7 +8,7 @@ use native.Mathlib.Nat.{lt-of-le-of-lt}
 use lib.Dec.{eqb, lit<}
 use Rattle.stage.specs.Estimate.{histogram, logSum}
 use Rattle.estimate.specs.Counting.{entry}
-use Rattle.estimate.proofs.Passes.{SecondPass, remaining-all, remaining-less, remaining-none, remaining-le, logSum-more, logSum-most}
+use Rattle.estimate.proofs.Occurrences.{SecondPass, remaining-all, remaining-less, remaining-none, remaining-le, logSum-more, logSum-most}
 use Rattle.estimate.proofs.histogram.sum_and_clear.Statement.{statement}
 use Rattle.estimate.proofs.histogram.sum_and_clear.Tie as tie
 

@@ -8,13 +8,13 @@ use borrow.Author.Needs.{needs}
 use Rattle.stage.specs.Estimate.{counted, countedResidual, residual}
 use Rattle.stage.proofs.Counting.{stride-le, counted-rule}
 use Rattle.estimate.specs.Counting.{bin}
-use Rattle.estimate.proofs.Walk.{Walked, first-index, next-index, next-column-is, holds-none, holds-more}
+use Rattle.estimate.proofs.CountedIndices.{CountedTo, first-index, next-index, next-column-is, holds-none, holds-more}
 use Rattle.estimate.proofs.residual.assign_bins.Statement.{statement}
 use Rattle.estimate.proofs.residual.assign_bins.Tie as tie
 
 abbrev Inv-loop : tie.InvT-loop
 Inv-loop plane width d n bins₀ k step i₀ column₀ j₀ bins i column j =
-    Walked (λ m. bin d (countedResidual width plane m)) (length plane) width n j i column bins
+    CountedTo (λ m. bin d (countedResidual width plane m)) (length plane) width n j i column bins
 
 abbrev μ-loop : tie.MeasureT-loop
 μ-loop plane width d n bins₀ k step i₀ column₀ j₀ bins i column j = n - j

@@ -1,20 +1,16 @@
 use borrow.Author.Needs.{needs}
-use mathlib.Core.Path.{refl, ap, _∙_}
+use mathlib.Core.Path.{refl}
 use native.Mathlib.Omega.{arith}
-use lib.Dec.{lit≤, lit<}
-use mir.Syntax.{w32}
-use mir.Facts.{toZ-ofZ}
 use denote.Ref.{now}
 use Rattle.integers.specs.Parts.{In}
 use Rattle.integers.specs.Lists.{at}
-use Rattle.integers.proofs.Ranges.{in-fits}
 use Rattle.integers.proofs.Changes.{changed-none, changed-more}
-use Rattle.kernel.specs.Pass.{applied}
+use Rattle.kernel.proofs.Segments.{applied-is}
 use Rattle.kernel.proofs.border.lift_sample.Statement.{statement}
 use Rattle.kernel.proofs.border.lift_sample.Tie as tie
 
 own : (s : tie.Start) → In 4194304 4194304 (at (now (s .args .c)) (s .args .i))
-own s = s .pre .1 .1 .1 .0 .each (s .args .i) (omega arith) (omega arith)
+own s = s .pre .segment .changed .each (s .args .i) (omega arith) (omega arith)
 
 window-mean-requires : tie.Need-window-mean-requires
 window-mean-requires c κs = search needs
@@ -40,11 +36,7 @@ same-length c = search needs
 returns : tie.Need-returns
 returns c =
     let s = c .before .before .before in
-    let r = c .before .before .window-mean .ensures in
-    let f = in-fits {w = w32} (own s) (lit≤ tt) (lit< tt) in
-    let g = in-fits {w = w32} (r .range) (lit≤ tt) (lit< tt) in
-    let e = simp (toZ-ofZ, f, g) at (c .apply .ensures) in
-    let h = e ∙ ap (applied (s .args .pass) (at (now (s .args .c)) (s .args .i))) (r .is) in
+    let h = applied-is (s .args .pass) (own s) (c .before .before .window-mean .ensures) (c .apply .ensures) in
     changed-more _ (changed-none _ _ refl) (omega arith) (omega arith) (search needs) refl
 
 pub lift-sample-spec : {M : Type 1} → statement M

@@ -26,7 +26,7 @@ reciprocal-of-requires c κs = let e = entry-sound (c .args .entry) (c .pre) in 
 returns : tie.Need-returns
 returns c =
     let e = entry-sound (c .before .args .entry) (c .before .pre) in
-    (record { least = e .least; most = e .most; product = e .product; divides = c .reciprocal-of .ensures }, refl)
+    record { is = refl; sound = record { least = e .least; most = e .most; product = e .product; divides = c .reciprocal-of .ensures } }
 
 pub centre-at-spec : {M : Type 1} → statement M
 centre-at-spec =

@@ -3,39 +3,24 @@ use denote.Ref.{now}
 use Prim.Native.Nat.{_+_}
 use lib.IntN.{ℤ, pos, _+ℤ_, _*ℤ_}
 use mathlib.Core.Path.{ap, _∙_}
-use lib.Dec.{lit≤, lit<}
 use mir.Facts.{toZ-ofZ}
-use mir.Syntax.{w32}
-use mir.Val.{SFits}
 use Rattle.integers.specs.Lists.{at}
-use Rattle.integers.specs.Parts.{In}
-use Rattle.integers.proofs.Ranges.{sfits-shr, in-zero, in-fits}
+use Rattle.integers.proofs.Ranges.{sfits-shr}
 use Rattle.stage.specs.Filter.{roundedMean}
-use Rattle.kernel.specs.Window.{interiorMean}
-use Rattle.kernel.proofs.Interior.{InteriorFits, interior-fits, InteriorResult, interior-result}
+use Rattle.kernel.proofs.Borders.{interior-window}
+use Rattle.kernel.proofs.Interior.{SampleIn, InteriorIn, base-fits, rest-fits, InteriorResult, interior-result}
 use Rattle.kernel.proofs.window.interior_mean.Statement.{statement}
 use Rattle.kernel.proofs.window.interior_mean.Tie as tie
 
--- the sample and the weights
-own : (s : tie.Start) → In 524288 524288 (at (now (s .args .plane)) (s .args .i))
-own s = s .pre .1 .0 .each (s .args .i)
+abbrev sample : tie.Start → ℤ
+sample s = at (now (s .args .plane)) (s .args .i)
 
-own-fits : (s : tie.Start) → SFits w32 (at (now (s .args .plane)) (s .args .i))
-own-fits s = in-fits (own s) (lit≤ tt) (lit< tt)
-
-before : (s : tie.Start) → InteriorFits (s .pre .1 .1) (pos 0) (at (now (s .args .plane)) (s .args .i)) (in-zero _ _) (own s)
-before s = interior-fits (s .pre .1 .1) (pos 0) (at (now (s .args .plane)) (s .args .i)) (in-zero _ _) (own s)
+own : (s : tie.Start) → SampleIn (s .args .centre) (sample s)
+own s = record { weights = s .pre .weights; range = s .pre .windows .samples .each (s .args .i) }
 
 -- with the neighbours
-neighbours-fit : (c : tie.After-neighbours) → SFits w32 (c .neighbours .result)
-neighbours-fit c = in-fits (c .neighbours .ensures .range) (lit≤ tt) (lit< tt)
-
-after : (c : tie.After-neighbours) →
-    let s = c .before .before .before .before in
-    InteriorFits (s .pre .1 .1) (c .neighbours .result) (at (now (s .args .plane)) (s .args .i)) (c .neighbours .ensures .range) (own s)
-after c =
-    let s = c .before .before .before .before in
-    interior-fits (s .pre .1 .1) (c .neighbours .result) (at (now (s .args .plane)) (s .args .i)) (c .neighbours .ensures .range) (own s)
+window : (c : tie.After-neighbour-sum) → let s = c .before .before .before .before in InteriorIn (s .args .centre) (c .neighbour-sum .result) (sample s)
+window c = record { own = own (c .before .before .before .before); sum = c .neighbour-sum .ensures .range }
 
 add-d : tie.Need-add-d
 add-d c = search needs
@@ -47,28 +32,22 @@ shared-slice-copy-out-base : tie.Need-shared-slice-copy-out-base
 shared-slice-copy-out-base c = search needs
 
 cast-base : tie.Need-cast-base
-cast-base c = before (c .before .before .before) .offset-fits
+cast-base c = base-fits (own (c .before .before .before)) .offset
 
 sub-base : tie.Need-sub-base
-sub-base c =
-    let s = c .before .before .before in
-    let k = before s in
-    simp (toZ-ofZ, own-fits s, k .offset-fits) (k .difference)
+sub-base c = let k = base-fits (own (c .before .before .before)) in simp (toZ-ofZ, k .own, k .offset) (k .difference)
 
 mul-base-2 : tie.Need-mul-base-2
-mul-base-2 c =
-    let s = c .before .before .before in
-    let k = before s in
-    simp (toZ-ofZ, own-fits s, k .offset-fits, k .difference) (k .base-fits)
+mul-base-2 c = let k = base-fits (own (c .before .before .before)) in simp (toZ-ofZ, k .own, k .offset, k .difference) (k .product)
 
-neighbours-requires : tie.Need-neighbours-requires
-neighbours-requires c κs = search needs
+neighbour-sum-requires : tie.Need-neighbour-sum-requires
+neighbour-sum-requires c κs = search needs
 
 sub-rest : tie.Need-sub-rest
 sub-rest c =
-    let s = c .before .before .before .before in
-    let k = after c in
-    simp (toZ-ofZ, own-fits s, neighbours-fit c, k .offset-fits, k .difference, k .base-fits) (k .less-base)
+    let k = base-fits (own (c .before .before .before .before)) in
+    let r = rest-fits (window c) in
+    simp (toZ-ofZ, k .own, k .offset, k .difference, k .product, r .sum) (r .difference)
 
 add-rest : tie.Need-add-rest
 add-rest c = search needs
@@ -78,55 +57,55 @@ cast-rest c = search needs
 
 add-rest-2 : tie.Need-add-rest-2
 add-rest-2 c =
-    let s = c .before .before .before .before in
-    let k = after c in
-    simp (toZ-ofZ, own-fits s, neighbours-fit c, k .offset-fits, k .difference, k .base-fits, k .less-base, k .half) (k .rest-fits)
+    let k = base-fits (own (c .before .before .before .before)) in
+    let r = rest-fits (window c) in
+    simp (toZ-ofZ, k .own, k .offset, k .difference, k .product, r .sum, r .difference, r .half) (r .total)
 
-cast-eighths : tie.Need-cast-eighths
-cast-eighths c =
-    let s = c .before .before .before .before in
-    let k = after c in
-    simp (toZ-ofZ, own-fits s, neighbours-fit c, k .offset-fits, k .difference, k .base-fits, k .less-base, k .half, k .rest-fits) (k .sign, k .size)
+cast-fixed-quotient : tie.Need-cast-fixed-quotient
+cast-fixed-quotient c =
+    let k = base-fits (own (c .before .before .before .before)) in
+    let r = rest-fits (window c) in
+    simp (toZ-ofZ, k .own, k .offset, k .difference, k .product, r .sum, r .difference, r .half, r .total) (r .sign, r .size)
 
-eighths-requires : tie.Need-eighths-requires
-eighths-requires c κs =
+fixed-quotient-requires : tie.Need-fixed-quotient-requires
+fixed-quotient-requires c κs =
     let s = c .before .before .before .before in
-    let k = after c in (
-      s .pre .1 .1 .divides,
-      simp (toZ-ofZ, own-fits s, neighbours-fit c, k .offset-fits, k .difference, k .base-fits, k .less-base, k .half, k .rest-fits) (k .below),
-    )
+    let k = base-fits (own s) in
+    let r = rest-fits (window c) in
+    record {
+      divisor = s .pre .weights .divides;
+      dividend = simp (toZ-ofZ, k .own, k .offset, k .difference, k .product, r .sum, r .difference, r .half, r .total) (r .below);
+    }
 
-result : (c : tie.After-eighths) →
-    let n = c .before in
-    let s = n .before .before .before .before in
-    InteriorResult (s .pre .1 .1) (n .neighbours .result) (at (now (s .args .plane)) (s .args .i)) (n .neighbours .ensures .range) (own s) (c .eighths .result)
+result : (c : tie.After-fixed-quotient) → InteriorResult (window (c .before)) (c .fixed-quotient .result)
 result c =
     let n = c .before in
-    let s = n .before .before .before .before in
-    let k = after n in
-    interior-result (s .pre .1 .1) (n .neighbours .result) (at (now (s .args .plane)) (s .args .i)) (n .neighbours .ensures .range) (own s) (c .eighths .result)
-    (simp (toZ-ofZ, own-fits s, neighbours-fit n, k .offset-fits, k .difference, k .base-fits, k .less-base, k .half, k .rest-fits) at (c .eighths .ensures))
+    let k = base-fits (own (n .before .before .before .before)) in
+    let r = rest-fits (window n) in
+    let e = simp (toZ-ofZ, k .own, k .offset, k .difference, k .product, r .sum, r .difference, r .half, r .total) at (c .fixed-quotient .ensures) in
+    interior-result (window n) (c .fixed-quotient .result) e
 
 cast-result : tie.Need-cast-result
 cast-result c = result c .own
 
 add-result : tie.Need-add-result
 add-result c =
-    let s = c .before .before .before .before .before in
-    let k = before s in
+    let k = base-fits (own (c .before .before .before .before .before)) in
     let r = result c in
-    simp (toZ-ofZ, own-fits s, k .offset-fits, k .difference, k .base-fits, r .own) (r .sum)
+    simp (toZ-ofZ, k .own, k .offset, k .difference, k .product, r .own) (r .sum)
 
 returns : tie.Need-returns
-unfolding interiorMean
 returns c =
     let s = c .before .before .before .before .before in
-    let k = before s in
+    let k = base-fits (own s) in
     let r = result c in
     let w = s .args .centre .weight in
-    let e = ap (λ (z : ℤ). roundedMean (z +ℤ pos w *ℤ at (now (s .args .plane)) (s .args .i)) (8 + w)) (c .before .neighbours .ensures .is) in
-    simp (toZ-ofZ, own-fits s, k .offset-fits, k .difference, k .base-fits, r .own, r .sum, sfits-shr 8 (r .sum))
-    (record { is = r .value .is ∙ e; range = r .value .range })
+    let e = ap (λ (z : ℤ). roundedMean (z +ℤ pos w *ℤ sample s) (8 + w)) (c .before .neighbour-sum .ensures .is) in
+    simp (toZ-ofZ, k .own, k .offset, k .difference, k .product, r .own, r .sum, sfits-shr 8 (r .sum))
+    (record {
+      is = r .value .is ∙ e ∙ interior-window (s .args .width) w (s .args .i) (now (s .args .plane)) (s .pre .weights .least);
+      range = r .value .range;
+    })
 
 pub interior-mean-spec : {M : Type 1} → statement M
 interior-mean-spec =
@@ -138,13 +117,13 @@ interior-mean-spec =
     cast-base
     sub-base
     mul-base-2
-    neighbours-requires
+    neighbour-sum-requires
     sub-rest
     add-rest
     cast-rest
     add-rest-2
-    cast-eighths
-    eighths-requires
+    cast-fixed-quotient
+    fixed-quotient-requires
     cast-result
     add-result
     returns)

@@ -7,7 +7,7 @@ use Rattle.kernel.proofs.window.offset_sample.Statement.{statement}
 use Rattle.kernel.proofs.window.offset_sample.Tie as tie
 
 known : (c : tie.Start) → OffsetSample (at (now (c .args .plane)) (c .args .i))
-known c = offset-sample _ (c .pre .1 .each (c .args .i))
+known c = offset-sample _ (c .pre .samples .each (c .args .i))
 
 mul-result : tie.Need-mul-result
 mul-result c = search needs

@@ -1,5 +1,6 @@
 use borrow.Author.Needs.{needs}
-use Rattle.kernel.proofs.Offsets.{offset-add}
+use native.Mathlib.Omega.{arith}
+use Rattle.kernel.proofs.Offsets.{offset-add, offset-as}
 use Rattle.kernel.proofs.window.row_sum.Statement.{statement}
 use Rattle.kernel.proofs.window.row_sum.Tie as tie
 
@@ -25,7 +26,9 @@ add-result-2 : tie.Need-add-result-2
 add-result-2 c = search needs
 
 returns : tie.Need-returns
-returns c = offset-add (offset-add (c .before .before .sample-if .ensures) (c .before .offset-sample .ensures)) (c .sample-if2 .ensures)
+returns c =
+    offset-as (omega arith)
+    (offset-add (offset-add (c .before .before .sample-if .ensures) (c .before .offset-sample .ensures)) (c .sample-if2 .ensures))
 
 pub row-sum-spec : {M : Type 1} → statement M
 row-sum-spec =

@@ -1,7 +1,7 @@
 -- Five pieces one behind the other.
 use borrow.Author.Needs.{needs}
 use native.Mathlib.Omega.{arith}
-use Rattle.report_text.proofs.Written.{then}
+use Rattle.text.proofs.Written.{then}
 use Rattle.report_text.proofs.pixmaps.put_lines.Statement.{statement}
 use Rattle.report_text.proofs.pixmaps.put_lines.Tie as tie
 
@@ -35,15 +35,20 @@ slice-aggregate-put-line-4 c = search needs
 put-line-requires-4 : tie.Need-put-line-requires-4
 put-line-requires-4 c κs = search needs
 
+same-length : tie.Need-same-length
+same-length c = search needs
+
 returns : tie.Need-returns
 returns c =
-    let d = c .before .before .before .before in
-    let b = d .before .before .before .before in
-    let a = b .before .before .before .before in
-    let t = a .before .before .before .before in (
-      then (t .put-bytes .ensures) (then (then (then (a .put-line .ensures .0) (b .put-line2 .ensures .0)) (d .put-line3 .ensures .0)) (c .put-line4 .ensures .0)),
-      omega (arith, t .put-bytes .ensures .end-is, a .put-line .ensures .1, b .put-line2 .ensures .1, d .put-line3 .ensures .1, c .put-line4 .ensures .1),
-    )
+    let d = c .before .before in
+    let r = d .before .before .before .before .before .before in
+    let y = r .before .before .before .before .before .before in
+    let l = y .before .before .before .before .before .before in
+    let t = l .before .before .before .before .before .before in
+    record {
+      written = then (t .put-bytes .ensures) (then (then (then (l .put-line .ensures .written) (y .put-line2 .ensures .written)) (r .put-line3 .ensures .written)) (d .put-line4 .ensures .written));
+      fits = omega arith;
+    }
 
 pub put-lines-spec : {M : Type 1} → statement M
 put-lines-spec =
@@ -59,4 +64,5 @@ put-lines-spec =
     put-line-requires-3
     slice-aggregate-put-line-4
     put-line-requires-4
+    same-length
     returns)

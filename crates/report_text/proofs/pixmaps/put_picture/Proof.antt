@@ -6,7 +6,7 @@ use Rattle.stage.specs.Planes.{Planes, triple}
 use Rattle.stage.specs.Pixmap.{Header}
 use Rattle.report_text.specs.Found.{firstOf}
 use Rattle.report_text.proofs.Replies.{lines-refused, lines-done}
-use Rattle.report_text.proofs.Written.{wrote-as}
+use Rattle.report_text.proofs.Reports.{report-as}
 use Rattle.report_text.proofs.pixmaps.put_picture.Statement.{statement}
 use Rattle.report_text.proofs.pixmaps.put_picture.Tie as tie
 
@@ -23,11 +23,14 @@ w2 q = w3 q .before .before .before
 abbrev w1 : tie.After-first-of3 → tie.After-search-with
 w1 q = w2 q .before .before .before
 
+abbrev start : tie.After-first-of3 → tie.Start
+start q = w1 q .before .before .before
+
 abbrev header : tie.After-first-of3 → Header
-header q = let a = w1 q .before .before .args in record { width = a .width; height = a .height; depth = a .depth }
+header q = let a = start q .args in record { width = a .width; height = a .height; depth = a .depth }
 
 abbrev planes : tie.After-first-of3 → Planes
-planes q = let a = w1 q .before .before .args in triple (now (a .c1)) (now (a .c2)) (now (a .c3))
+planes q = let a = start q .args in triple (now (a .c1)) (now (a .c2)) (now (a .c3))
 
 first : (q : tie.After-first-of3) → q .first-of3 .result ≡ firstOf (firstOf (firstOf (w1 q .search-with .result .refusal) (w2 q .search-with2 .result .refusal)) (w3 q .search-with3 .result .refusal)) (w4 q .search-with4 .result .refusal)
 first q = q .first-of3 .ensures ∙ ap (λ x. firstOf x (w4 q .search-with4 .result .refusal)) (q .before .first-of2 .ensures ∙ ap (λ x. firstOf x (w3 q .search-with3 .result .refusal)) (q .before .before .first-of .ensures))
@@ -66,25 +69,29 @@ first-of-requires-3 : tie.Need-first-of-requires-3
 first-of-requires-3 c κs = search needs
 
 put-refusal-requires : tie.Need-put-refusal-requires
-put-refusal-requires c κs = search needs
+put-refusal-requires c κs = start (c .before .before) .pre
+
+same-length : tie.Need-same-length
+same-length c = search needs
 
 returns : tie.Need-returns
 returns c =
-    let q = c .before .before .before in (
-      wrote-as (lines-refused (header q) (planes q) (w1 q .search-with .ensures) (w2 q .search-with2 .ensures) (w3 q .search-with3 .ensures) (w4 q .search-with4 .ensures) (first q) (c .before .before .if1 .taken)) (c .put-refusal .ensures .0),
-      c .put-refusal .ensures .1,
-    )
+    let p = c .before .before in
+    let q = p .before .before .before in
+    report-as (lines-refused (header q) (planes q) (w1 q .search-with .ensures) (w2 q .search-with2 .ensures) (w3 q .search-with3 .ensures) (w4 q .search-with4 .ensures) (first q) (p .before .before .if1 .taken)) (p .put-refusal .ensures)
 
 put-lines-requires : tie.Need-put-lines-requires
-put-lines-requires c κs = search needs
+put-lines-requires c κs = start (c .before .before .before .before .before .before) .pre
+
+same-length-2 : tie.Need-same-length-2
+same-length-2 c = search needs
 
 returns-2 : tie.Need-returns-2
 returns-2 c =
-    let e = c .before .before .before .before .before .before in
-    let q = e .before in (
-      wrote-as (lines-done (header q) (planes q) (w1 q .search-with .ensures) (w2 q .search-with2 .ensures) (w3 q .search-with3 .ensures) (w4 q .search-with4 .ensures) (first q) (e .if1 .left)) (c .put-lines .ensures .0),
-      c .put-lines .ensures .1,
-    )
+    let p = c .before .before in
+    let e = p .before .before .before .before .before .before in
+    let q = e .before in
+    report-as (lines-done (header q) (planes q) (w1 q .search-with .ensures) (w2 q .search-with2 .ensures) (w3 q .search-with3 .ensures) (w4 q .search-with4 .ensures) (first q) (e .if1 .left)) (p .put-lines .ensures)
 
 pub put-picture-spec : {M : Type 1} → statement M
 put-picture-spec =
@@ -102,6 +109,8 @@ put-picture-spec =
     first-of-requires-2
     first-of-requires-3
     put-refusal-requires
+    same-length
     returns
     put-lines-requires
+    same-length-2
     returns-2)

@@ -9,12 +9,12 @@ use Rattle.report_text.proofs.pixmaps.put_pixmap.Statement.{statement}
 use Rattle.report_text.proofs.pixmaps.put_pixmap.Tie as tie
 
 abbrev start : tie.After-new-plane3 → tie.Start
-start q = q .before .before .before .before
+start q = q .before .before .before .before .before
 
 small : (q : tie.After-new-plane3) → start q .args .width * start q .args .height ≤ 2730
 small q =
     let s = start q in
-    omega (arith, pixels-most (now (s .args .file)) (record { width = s .args .width; height = s .args .height; depth = s .args .depth }) (s .pre .0), s .pre .1)
+    omega (arith, pixels-most (now (s .args .file)) (record { width = s .args .width; height = s .args .height; depth = s .args .depth }) (s .pre .header), s .pre .short)
 
 new-plane-requires : tie.Need-new-plane-requires
 new-plane-requires c κs = search needs
@@ -48,13 +48,19 @@ slice-aggregate-put-planes-3 c = let q = c .before .before .before .before in pr
 
 put-planes-requires : tie.Need-put-planes-requires
 put-planes-requires c κs =
-    let q = c .before .before .before .before in (
-      start q .pre .0,
-      all-equal _ _ _ _ (prefix-length _ _ (q .before .before .new-plane .ensures) (small q)) (prefix-length _ _ (q .before .new-plane2 .ensures) (small q)) (prefix-length _ _ (q .new-plane3 .ensures) (small q)),
-    )
+    let q = c .before .before .before .before in
+    let p = start q .pre in
+    record {
+      header = p .header;
+      sizes = all-equal _ _ _ _ (prefix-length _ _ (q .before .before .new-plane .ensures) (small q)) (prefix-length _ _ (q .before .new-plane2 .ensures) (small q)) (prefix-length _ _ (q .new-plane3 .ensures) (small q));
+      room = p .room;
+    }
+
+same-length : tie.Need-same-length
+same-length c = search needs
 
 returns : tie.Need-returns
-returns c = c .before .before .before .put-planes .ensures
+returns c = c .before .before .before .before .before .put-planes .ensures
 
 pub put-pixmap-spec : {M : Type 1} → statement M
 put-pixmap-spec =
@@ -71,4 +77,5 @@ put-pixmap-spec =
     array-borrow-prefix-c3
     slice-aggregate-put-planes-3
     put-planes-requires
+    same-length
     returns)

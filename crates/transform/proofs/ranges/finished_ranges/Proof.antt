@@ -1,8 +1,11 @@
 use borrow.Author.Needs.{needs}
 use native.Mathlib.Omega.{arith}
-use lib.Dec.{lit≤}
 use mathlib.Core.Path.{_≡_}
-use Rattle.stage.specs.Theorems.{rangeTable}
+use Prim.Native.Nat.{ℕ}
+use lib.ListN.{getD}
+use Rattle.stage.specs.declared.Range.{Range}
+use Rattle.stage.specs.Planes.{Triple}
+use Rattle.stage.specs.Ranges.{sampleRanges, finishedRanges, rangeTable}
 use Rattle.transform.proofs.FinishedRanges.{finished-row}
 use Rattle.transform.proofs.ranges.finished_ranges.Statement.{statement}
 use Rattle.transform.proofs.ranges.finished_ranges.Tie as tie
@@ -22,8 +25,8 @@ sub-power-of-two-2 c = search needs
 power-of-two-requires-2 : tie.Need-power-of-two-requires-2
 power-of-two-requires-2 c κs = search needs
 
-mul-range-row : tie.Need-mul-range-row
-mul-range-row c = search needs
+mul-t : tie.Need-mul-t
+mul-t c = search needs
 
 sub-range-row : tie.Need-sub-range-row
 sub-range-row c = search needs
@@ -31,26 +34,20 @@ sub-range-row c = search needs
 range-row-requires : tie.Need-range-row-requires
 range-row-requires c κs = search needs
 
-mul-range-row-2 : tie.Need-mul-range-row-2
-mul-range-row-2 c = search needs
-
 sub-range-row-2 : tie.Need-sub-range-row-2
 sub-range-row-2 c = search needs
-
-mul-range-row-3 : tie.Need-mul-range-row-3
-mul-range-row-3 c = search needs
 
 sub-range-row-3 : tie.Need-sub-range-row-3
 sub-range-row-3 c = search needs
 
-mul-range-row-4 : tie.Need-mul-range-row-4
-mul-range-row-4 c = search needs
+mul-range-row : tie.Need-mul-range-row
+mul-range-row c = search needs
 
 sub-range-row-4 : tie.Need-sub-range-row-4
 sub-range-row-4 c = search needs
 
-mul-range-row-5 : tie.Need-mul-range-row-5
-mul-range-row-5 c = search needs
+mul-range-row-2 : tie.Need-mul-range-row-2
+mul-range-row-2 c = search needs
 
 sub-range-row-5 : tie.Need-sub-range-row-5
 sub-range-row-5 c = search needs
@@ -64,20 +61,11 @@ range-row-requires-3 c κs = search needs
 sub-range-row-6 : tie.Need-sub-range-row-6
 sub-range-row-6 c = search needs
 
-mul-range-row-6 : tie.Need-mul-range-row-6
-mul-range-row-6 c = search needs
-
 sub-range-row-7 : tie.Need-sub-range-row-7
 sub-range-row-7 c = search needs
 
-mul-range-row-7 : tie.Need-mul-range-row-7
-mul-range-row-7 c = search needs
-
 sub-range-row-8 : tie.Need-sub-range-row-8
 sub-range-row-8 c = search needs
-
-mul-range-row-8 : tie.Need-mul-range-row-8
-mul-range-row-8 c = search needs
 
 sub-range-row-9 : tie.Need-sub-range-row-9
 sub-range-row-9 c = search needs
@@ -85,35 +73,35 @@ sub-range-row-9 c = search needs
 range-row-requires-4 : tie.Need-range-row-requires-4
 range-row-requires-4 c κs = search needs
 
+-- row k of the table, of the powers that were found
+row : (c : tie.After-power-of-two2) (k : ℕ) (r : Triple Range) → let s = c .before .before .before .before .before .args .settings in s .transform ≡ k
+    → r ≡ getD (rangeTable (c .before .before .before .before .max-sample .result) (c .before .before .power-of-two .result) (c .power-of-two2 .result)) k (sampleRanges s)
+    → r ≡ finishedRanges s
+row c k r =
+    let p = c .before .before in
+    let m = p .before .before in
+    let a = m .before in
+    finished-row (a .args .settings) _ _ _ k r (a .pre .depth-least) (m .max-sample .ensures .0) (p .power-of-two .ensures .is) (c .power-of-two2 .ensures .is)
+
 returns : tie.Need-returns
 unfolding rangeTable
-returns c =
-    let a = c .before .before .before .before .before in
-    let s = a .args in
-    finished-row (s .transform) (s .depth) _ _ _ 0 _ (a .pre .1) (c .before .before .before .before .max-sample .ensures .0) (c .before .before .before .power-of-two .ensures .is) (c .before .before .power-of-two2 .ensures .is) (c .before .match .keys1) (lit≤ tt) (c .range-row .ensures)
+returns c = row (c .before .before) 0 _ (c .before .match .keys1) (c .range-row .ensures)
 
 returns-2 : tie.Need-returns-2
 unfolding rangeTable
-returns-2 c =
-    let a = c .before .before .before .before .before in
-    let s = a .args in
-    finished-row (s .transform) (s .depth) _ _ _ 1 _ (a .pre .1) (c .before .before .before .before .max-sample .ensures .0) (c .before .before .before .power-of-two .ensures .is) (c .before .before .power-of-two2 .ensures .is) (c .before .match .keys2) (lit≤ tt) (c .range-row2 .ensures)
+returns-2 c = row (c .before .before) 1 _ (c .before .match .keys2) (c .range-row2 .ensures)
 
 returns-3 : tie.Need-returns-3
 unfolding rangeTable
-returns-3 c =
-    let a = c .before .before .before .before .before in
-    let s = a .args in
-    finished-row (s .transform) (s .depth) _ _ _ 2 _ (a .pre .1) (c .before .before .before .before .max-sample .ensures .0) (c .before .before .before .power-of-two .ensures .is) (c .before .before .power-of-two2 .ensures .is) (c .before .match .keys3) (lit≤ tt) (c .range-row3 .ensures)
+returns-3 c = row (c .before .before) 2 _ (c .before .match .keys3) (c .range-row3 .ensures)
 
 returns-4 : tie.Need-returns-4
 unfolding rangeTable
 returns-4 c =
-    let a = c .before .before .before .before .before in
-    let s = a .args in
+    let a = c .before .before .before .before .before .before .before in
     let r = c .before .match .rest in
-    let last : s .transform ≡ 3 = omega (arith, a .pre, r .0 .0 .1, r .0 .1, r .1) in
-    finished-row (s .transform) (s .depth) _ _ _ 3 _ (a .pre .1) (c .before .before .before .before .max-sample .ensures .0) (c .before .before .before .power-of-two .ensures .is) (c .before .before .power-of-two2 .ensures .is) last (lit≤ tt) (c .range-row4 .ensures)
+    let last : a .args .settings .transform ≡ 3 = omega (arith, a .pre, r .0 .0 .1, r .0 .1, r .1) in
+    row (c .before .before) 3 _ last (c .range-row4 .ensures)
 
 pub finished-ranges-spec : {M : Type 1} → statement M
 finished-ranges-spec =
@@ -124,25 +112,20 @@ finished-ranges-spec =
     power-of-two-requires
     sub-power-of-two-2
     power-of-two-requires-2
-    mul-range-row
+    mul-t
     sub-range-row
     range-row-requires
-    mul-range-row-2
     sub-range-row-2
-    mul-range-row-3
     sub-range-row-3
-    mul-range-row-4
+    mul-range-row
     sub-range-row-4
-    mul-range-row-5
+    mul-range-row-2
     sub-range-row-5
     range-row-requires-2
     range-row-requires-3
     sub-range-row-6
-    mul-range-row-6
     sub-range-row-7
-    mul-range-row-7
     sub-range-row-8
-    mul-range-row-8
     sub-range-row-9
     range-row-requires-4
     returns

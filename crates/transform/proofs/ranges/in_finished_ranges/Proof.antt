@@ -4,7 +4,8 @@ use mathlib.Core.Bool.{_&&_}
 use native.Mathlib.Omega.{arith}
 use denote.Ref.{now}
 use Rattle.stage.specs.Planes.{Triple, triple}
-use Rattle.stage.specs.Ranges as stage
+use Rattle.stage.specs.declared.Range.{Range}
+use Rattle.stage.specs.Ranges.{withinRanges}
 use Rattle.transform.specs.FinishedRanges.{readRanges}
 use Rattle.transform.proofs.FinishedRanges.{Ends, read-ends}
 use Rattle.transform.proofs.ranges.in_finished_ranges.Statement.{statement}
@@ -14,7 +15,7 @@ finished-ranges-requires : tie.Need-finished-ranges-requires
 finished-ranges-requires c κs = search needs
 
 ends : (c : tie.After-finished-ranges) → Ends (readRanges (c .finished-ranges .result))
-ends c = let a = c .before in read-ends (a .args .transform) (a .args .depth) (a .pre .2) (c .finished-ranges .result) (c .finished-ranges .ensures)
+ends c = let a = c .before in read-ends (a .args .settings) (a .pre .depth-most) (c .finished-ranges .result) (c .finished-ranges .ensures)
 
 all-within-requires : tie.Need-all-within-requires
 all-within-requires c κs = let e = ends c in omega arith
@@ -30,7 +31,7 @@ returns c =
     let f = c .before .before .before in
     let s = f .before .args in
     ap₂ _&&_ (c .before .before .all-within .ensures) (ap₂ _&&_ (c .before .all-within2 .ensures) (c .all-within3 .ensures))
-    ∙ ap (λ (r : Triple stage.Range). stage.withinRanges r (triple (now (s .c1)) (now (s .c2)) (now (s .c3)))) (f .finished-ranges .ensures)
+    ∙ ap (λ (r : Triple Range). withinRanges r (triple (now (s .c1)) (now (s .c2)) (now (s .c3)))) (f .finished-ranges .ensures)
 
 pub in-finished-ranges-spec : {M : Type 1} → statement M
 in-finished-ranges-spec =

@@ -3,7 +3,8 @@ use mathlib.Core.Path.{ap, _∙_}
 use Prim.Native.Nat.{max}
 use native.Mathlib.Omega.{arith}
 use Rattle.stage.specs.Planes.{Triple}
-use Rattle.stage.specs.Ranges as stage
+use Rattle.stage.specs.declared.Range.{Range}
+use Rattle.stage.specs.Ranges.{extent}
 use Rattle.transform.specs.FinishedRanges.{readRanges}
 use Rattle.transform.proofs.FinishedRanges.{Ends, read-ends}
 use Rattle.transform.proofs.ranges.widest.Statement.{statement}
@@ -14,7 +15,7 @@ finished-ranges-requires c κs = search needs
 
 -- no sum is too large
 ends : (c : tie.After-finished-ranges) → Ends (readRanges (c .finished-ranges .result))
-ends c = let a = c .before in read-ends (a .args .transform) (a .args .depth) (a .pre .2) (c .finished-ranges .result) (c .finished-ranges .ensures)
+ends c = let a = c .before in read-ends (a .args .settings) (a .pre .depth-most) (c .finished-ranges .result) (c .finished-ranges .ensures)
 
 add-larger : tie.Need-add-larger
 add-larger c = let e = ends (c .before) in record { fits = omega arith }
@@ -35,8 +36,8 @@ returns : tie.Need-returns
 returns c =
     let r = c .before .before .before .before .before .finished-ranges in
     c .larger2 .ensures
-    ∙ ap (max (stage.extent (readRanges (r .result) .c1))) (c .before .larger .ensures)
-    ∙ ap (λ (x : Triple stage.Range). max (stage.extent (x .c1)) (max (stage.extent (x .c2)) (stage.extent (x .c3)))) (r .ensures)
+    ∙ ap (max (extent (readRanges (r .result) .c1))) (c .before .larger .ensures)
+    ∙ ap (λ (x : Triple Range). max (extent (x .c1)) (max (extent (x .c2)) (extent (x .c3)))) (r .ensures)
 
 pub widest-spec : {M : Type 1} → statement M
 widest-spec =

@@ -14,9 +14,15 @@ is-sized-requires c κs = search needs
 is-between-requires : tie.Need-is-between-requires
 is-between-requires c κs = search needs
 
+cast-all-equal : tie.Need-cast-all-equal
+cast-all-equal c = search needs
+
+cast-all-equal-2 : tie.Need-cast-all-equal-2
+cast-all-equal-2 c = search needs
+
 mul-all-equal : tie.Need-mul-all-equal
 mul-all-equal c =
-    let s = c .before .before .args in
+    let s = c .before .before .before .before .before .args .settings in
     let m : s .width * s .height ≤ 4294967295 * 4294967295 = mul-le-mul {n₁ = s .width} {m₁ = s .height} {n₂ = 4294967295} {m₂ = 4294967295} (omega arith) (omega arith) in
     record { fits = omega arith }
 
@@ -28,9 +34,10 @@ first-refusal-requires c κs = search needs
 
 returns : tie.Need-returns
 returns c =
-    let s = c .before .before .before .before .args in
+    let b = c .before .before .before .before .before in
+    let s = b .before .before .args in
     c .first-refusal .ensures
-    ∙ first-same (leb (s .transform) 3) (s .choices) (c .before .before .before .is-sized .ensures) (c .before .before .is-between .ensures) (c .before .all-equal .ensures)
+    ∙ first-same (leb (s .settings .transform) 3) (s .choices) (b .before .is-sized .ensures) (b .is-between .ensures) (c .before .all-equal .ensures)
 
 pub refusal-spec : {M : Type 1} → statement M
 refusal-spec =
@@ -38,6 +45,8 @@ refusal-spec =
     (tie.spec
     is-sized-requires
     is-between-requires
+    cast-all-equal
+    cast-all-equal-2
     mul-all-equal
     all-equal-requires
     first-refusal-requires

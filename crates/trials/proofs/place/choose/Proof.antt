@@ -1,79 +1,95 @@
--- The winner is chosen. The invariant: of the filters tried so far the best leads, and all but the place's choice is as it was.
 use borrow.Author.Needs.{needs}
+use mathlib.Core.Path.{_≡_, refl, sym, ap, ap₂, _∙_, subst}
+use mathlib.Core.List.{List}
+use Prim.Native.Nat.{ℕ, _-_, _≤_, _<_}
 use native.Mathlib.Omega.{arith}
-use mathlib.Core.Path.{_≡_, refl, sym, ap, _∙_, subst}
-use Prim.Native.Nat.{_-_, _≤_}
-use lib.ListN.{length, drop, length-set}
+use lib.ListN.{length, getD, set, length-set}
+use lib.Seq.{set-getD}
 use denote.Ref.{now}
-use Rattle.stage.specs.Planes.{C1, C2, C3, Planes, triple}
-use Rattle.stage.specs.Steps.{steps}
-use Rattle.trials.specs.Trials.{changed, others, partEstimate, trialEstimate, TrialPlanes, PartAnswer}
-use Rattle.trials.proofs.Choices.{Trying, but-none, but-set, leads-none, leads-more, leads-all, present-estimate, tried-estimate}
-use Rattle.trials.proofs.Ready.{countable}
+use Rattle.stage.specs.Planes.{Planes, triple}
+use Rattle.stage.proofs.Choices.{choices}
+use Rattle.trials.specs.declared.place.Place.{Place}
+use Rattle.trials.specs.Trials.{trialEstimate, TrialReady, PlaceReady, Chosen}
+use Rattle.trials.proofs.Filters.{Trying, trying-none, trying-ready, trying-more, trying-all}
 use Rattle.trials.proofs.place.choose.Statement.{statement}
 use Rattle.trials.proofs.place.choose.Tie as tie
 
 abbrev Inv-loop : tie.InvT-loop
-Inv-loop t1₀ t2₀ t3₀ counters₀ table choices₀ width height transform d step place estimate base present best₀ filter₀ t1 t2 t3 counters choices best filter =
-    (filter ≤ 13)
-    × Trying (trialEstimate width height transform step (triple t1₀ t2₀ t3₀)) transform d place filter (triple t1₀ t2₀ t3₀) (triple t1 t2 t3) counters₀ counters choices₀ choices best
+Inv-loop c1₀ c2₀ c3₀ settings place estimate choices₀ counters₀ table step at best₀ filter₀ c1 c2 c3 choices counters best filter =
+    (filter ≤ 13) × (length counters ≡ length counters₀) × Trying settings at filter (triple c1₀ c2₀ c3₀) (triple c1 c2 c3) choices₀ choices counters best
 
 abbrev μ-loop : tie.MeasureT-loop
-μ-loop t1₀ t2₀ t3₀ counters₀ table choices₀ width height transform d step place estimate base present best₀ filter₀ t1 t2 t3 counters choices best filter =
-    13 - filter
+μ-loop c1₀ c2₀ c3₀ settings place estimate choices₀ counters₀ table step at best₀ filter₀ c1 c2 c3 choices counters best filter = 13 - filter
+
+abbrev planes : tie.Start Inv-loop μ-loop → Planes
+planes a = triple (now (a .args .c1)) (now (a .args .c2)) (now (a .args .c3))
+
+abbrev stepped : tie.After-base-estimate Inv-loop μ-loop → tie.After-step-of Inv-loop μ-loop
+stepped b = b .before .before .before .before .before .before
 
 abbrev start : tie.After-base-estimate Inv-loop μ-loop → tie.Start Inv-loop μ-loop
-start c = c .before .before .before .before .before .before .before
+start b = stepped b .before .before .before
 
 abbrev based : tie.At-loop Inv-loop μ-loop → tie.After-base-estimate Inv-loop μ-loop
-based l = l .before .before .before .before
+based l = l .before .before .before
 
-abbrev entered : tie.After-try-filter Inv-loop μ-loop → tie.At-loop Inv-loop μ-loop
-entered c = c .before .before .before .before .before .before .before
+-- the place, as it stands in the loop
+abbrev at : tie.After-base-estimate Inv-loop μ-loop → Place
+at b =
+    let a = start b .args in
+    record {
+      place = a .place;
+      step = stepped b .step-of .result;
+      base = b .base-estimate .result;
+      present = record { filter = getD (now (a .choices)) (a .place) 0; estimate = a .estimate };
+    }
+
+known : (a : tie.Start Inv-loop μ-loop) → a .args .place < length (now (a .args .choices))
+known a = omega (arith, a .pre .place, choices (a .args .settings) (now (a .args .choices)) (a .pre .choices) .count)
+
+-- what is known of it
+ready : (b : tie.After-base-estimate Inv-loop μ-loop) → PlaceReady (start b .args .settings) (planes (start b)) (now (start b .args .choices)) (at b)
+ready b =
+    let a = start b in
+    let s = a .args .settings in
+    record {
+      choices = a .pre .choices;
+      place = known a;
+      base = b .base-estimate .ensures .answer;
+      present = a .pre .estimate
+          ∙ ap₂ (λ (j : ℕ) (φ : List ℕ). trialEstimate s j (planes a) φ) (sym (stepped b .step-of .ensures)) (sym (set-getD (now (a .args .choices)) (a .args .place) 0));
+    }
+
+standing : (o : tie.After-step-of Inv-loop μ-loop) → let a = o .before .before .before in
+    TrialReady (a .args .settings) (o .step-of .result) (planes a) (now (a .args .counters)) (now (a .args .table))
+standing o = rw (o .step-of .ensures) (o .before .before .before .pre .trial)
+
+step-of-requires : tie.Need-step-of-requires Inv-loop μ-loop
+step-of-requires c κs = c .before .before .pre .place
+
+slice-read-t17 : tie.Need-slice-read-t17 Inv-loop μ-loop
+slice-read-t17 c = known (c .before .before .before .before)
 
 base-estimate-requires : tie.Need-base-estimate-requires Inv-loop μ-loop
-base-estimate-requires c κs =
-    let p = c .before .before .before .before .before .before .pre in
-    ((countable (p .0) C1, countable (p .0) C2, countable (p .0) C3), (p .0 .known, (p .1 .1 .0 .0, p .1 .1 .0 .1)))
-
-slice-read-t28 : tie.Need-slice-read-t28 Inv-loop μ-loop
-slice-read-t28 c = omega (arith, start (c .before .before .before) .pre .1 .0 .2)
+base-estimate-requires c κs = standing (c .before .before .before .before .before)
 
 loop-holds : tie.Need-loop-holds Inv-loop μ-loop
 loop-holds c =
-    let b = c .before .before .before in
-    let s = start b in
-    let a = s .args in (
-      omega arith,
-      record {
-        planes = refl;
-        counters = b .base-estimate .ensures .1;
-        kept = refl;
-        but = but-none (s .pre .1 .0 .1);
-        leads = leads-none (trialEstimate (a .width) (a .height) (a .transform) (a .step) (triple (now (a .t1)) (now (a .t2)) (now (a .t3)))) (now (a .choices)) (a .place) _ refl (s .pre .1 .1 .1);
-      },
-    )
+    let b = c .before .before in
+    (omega arith, refl, trying-none (ready b) refl _ (b .base-estimate .ensures .counters))
 
 try-filter-requires : tie.Need-try-filter-requires Inv-loop μ-loop
 try-filter-requires c κs =
-    let l = c .before .before .before .before .before .before in
-    let s = start (based l) in
-    let a = s .args in
-    let v = l .loop .inv .1 in
-    let q = triple (now (a .t1)) (now (a .t2)) (now (a .t3)) in
-    let p = triple (l .loop .t1) (l .loop .t2) (l .loop .t3) in (
-      subst (TrialPlanes (a .width) (a .height) (a .transform) (a .d) (a .step)) {x = q} {y = p} (sym (v .planes)) (s .pre .0),
-      (
-        (s .pre .1 .0 .0, v .but .fit, omega (arith, v .but .long, s .pre .1 .0 .2), omega (arith, c .before .before .before .before .before .loop-test .taken)),
-        (
-          (v .counters, s .pre .1 .1 .0 .1),
-          (
-            subst (λ (x : Planes). PartAnswer (partEstimate (a .width) (others (changed (drop (a .step) (steps (a .transform))))) x) (based l .base-estimate .result)) {x = q} {y = p} (sym (v .planes)) (based l .base-estimate .ensures .0),
-            present-estimate (a .width) (a .height) (a .transform) (a .step) (a .place) (a .estimate) q p (now (a .choices)) (l .loop .choices) (v .planes) (v .but) (s .pre .1 .1 .1),
-          ),
-        ),
-      ),
-    )
+    let i = c .before .before .before .before .before in
+    let l = i .before in
+    let b = based l in
+    let z = standing (stepped b) in
+    let t = l .loop .inv .2 in
+    record {
+      trial = record { allowed = z .allowed; step = z .step; planes = rw (t .planes) (z .planes); counters = t .counters; logarithms = z .logarithms };
+      place = trying-ready (ready b) t;
+      filter = omega (arith, i .loop-test .taken);
+    }
 
 better-requires : tie.Need-better-requires Inv-loop μ-loop
 better-requires c κs = search needs
@@ -86,57 +102,38 @@ loop-less c = search needs
 
 loop-again : tie.Need-loop-again Inv-loop μ-loop
 loop-again c =
-    let r = c .before .before .before .before .before .before .before .before in
-    let x = r .try-filter in
-    let l = entered r in
-    let a = start (based l) .args in
-    let v = l .loop .inv .1 in
-    let q = triple (now (a .t1)) (now (a .t2)) (now (a .t3)) in
-    let p = triple (l .loop .t1) (l .loop .t2) (l .loop .t3) in
-    let φ = now (a .choices) in
-    let e = trialEstimate (a .width) (a .height) (a .transform) (a .step) q in
-    let f : l .loop .filter ≤ 12 = omega (arith, r .before .before .before .before .before .before .loop-test .taken) in (
-      omega arith,
-      record {
-        planes = x .ensures .1 .1 .0 ∙ v .planes;
-        counters = x .ensures .1 .1 .1;
-        kept = x .kept .1 .1 .1 .0 ∙ v .kept;
-        but = but-set _ (l .loop .filter) f (v .but) (x .ensures .1 .0);
-        leads = rw (c .better .ensures)
-            (leads-more e φ (a .place) (l .loop .filter) (l .loop .best) (x .result) (v .leads)
-            (tried-estimate (a .width) (a .height) (a .transform) (a .step) (a .place) (l .loop .filter) (x .result) q p φ (l .loop .choices) (v .planes) (v .but) (x .ensures .0)));
-      },
+    let f = c .before .before .before .before .before .before .before .before in
+    let i = f .before .before .before .before .before .before in
+    let l = i .before in (
+      omega (arith, i .loop-test .taken),
+      f .try-filter .kept .1 .1 .1 .1 .1 .1 .1 .0 ∙ l .loop .inv .1,
+      trying-more (ready (based l)) (omega (arith, i .loop-test .taken)) (l .loop .inv .2) (f .try-filter .ensures) _ (c .better .ensures),
     )
 
 slice-write-choices : tie.Need-slice-write-choices Inv-loop μ-loop
-slice-write-choices c =
-    let l = c .before in
-    omega (arith, l .loop .inv .1 .but .long, start (based l) .pre .1 .0 .2)
+slice-write-choices c = let l = c .before in omega (arith, l .loop .inv .2 .but .long, known (start (based l)))
 
 same-length : tie.Need-same-length Inv-loop μ-loop
-same-length c = ap (λ (x : Planes). length (x .c1)) (c .before .loop .inv .1 .planes)
+same-length c = ap (λ (p : Planes). length (p .c1)) (c .before .loop .inv .2 .planes)
 
 same-length-2 : tie.Need-same-length-2 Inv-loop μ-loop
-same-length-2 c = ap (λ (x : Planes). length (x .c2)) (c .before .loop .inv .1 .planes)
+same-length-2 c = ap (λ (p : Planes). length (p .c2)) (c .before .loop .inv .2 .planes)
 
 same-length-3 : tie.Need-same-length-3 Inv-loop μ-loop
-same-length-3 c = ap (λ (x : Planes). length (x .c3)) (c .before .loop .inv .1 .planes)
+same-length-3 c = ap (λ (p : Planes). length (p .c3)) (c .before .loop .inv .2 .planes)
 
 same-length-4 : tie.Need-same-length-4 Inv-loop μ-loop
-same-length-4 c = c .before .loop .inv .1 .kept ∙ based (c .before) .base-estimate .kept .1 .1 .1 .1 .1 .1 .1 .0
+same-length-4 c = simp length-set (c .before .loop .inv .2 .but .long)
 
 same-length-5 : tie.Need-same-length-5 Inv-loop μ-loop
-same-length-5 c = simp length-set (c .before .loop .inv .1 .but .long)
+same-length-5 c = c .before .loop .inv .1 ∙ based (c .before) .base-estimate .kept .1 .1 .1 .1 .1 .0
 
 returns : tie.Need-returns Inv-loop μ-loop
 returns c =
-    let l = c .before .loop in
-    let a = start (based (c .before)) .args in
-    let v = l .inv .1 in
-    let e = trialEstimate (a .width) (a .height) (a .transform) (a .step) (triple (now (a .t1)) (now (a .t2)) (now (a .t3))) in
-    let n : l .filter ≡ 13 = omega (arith, l .inv .0, c .loop-test .left) in
-    let w = leads-all e (now (a .choices)) (a .place) (a .transform) (l .filter) (l .best) (l .choices) n (v .leads) (v .but) in
-    (w .0, (w .1, (v .planes, v .counters)))
+    let l = c .before in
+    let a = start (based l) in
+    let k = trying-all (l .loop .inv .2) (omega (arith, c .loop-test .left, l .loop .inv .0)) in
+    subst (λ (j : ℕ). Chosen (a .args .settings) j (a .args .place) (planes a) (now (a .args .choices)) (l .loop .best .estimate) (triple (l .loop .c1) (l .loop .c2) (l .loop .c3)) (set (l .loop .choices) (a .args .place) (l .loop .best .filter)) (l .loop .counters)) (stepped (based l) .step-of .ensures) k
 
 pub choose-spec : {M : Type 1} → statement M
 choose-spec =
@@ -144,8 +141,9 @@ choose-spec =
     (tie.spec
     Inv-loop
     μ-loop
+    step-of-requires
+    slice-read-t17
     base-estimate-requires
-    slice-read-t28
     loop-holds
     try-filter-requires
     better-requires

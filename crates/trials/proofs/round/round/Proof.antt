@@ -1,203 +1,200 @@
--- A round is `round`. The invariant: the places passed are done, and the trial planes stand before the step of the last of them.
 use borrow.Author.Needs.{needs}
-use native.Mathlib.Omega.{arith}
 use mathlib.Core.Path.{_≡_, refl, sym, ap, _∙_}
+use mathlib.Core.List.{List}
 use Prim.Native.Nat.{ℕ, _-_, _≤_, _<_}
+use native.Mathlib.Omega.{arith}
 use lib.ListN.{length}
 use denote.Ref.{now}
+use Rattle.integers.specs.Slices.{slice}
 use Rattle.stage.specs.Planes.{Planes, triple}
-use Rattle.stage.specs.Steps.{steps, places}
+use Rattle.stage.specs.Steps.{Step, steps, places, undo}
+use Rattle.stage.specs.Transform.{setup}
 use Rattle.stage.specs.Search.{round, choicesEstimate}
-use Rattle.transform.proofs.Passes.{choices-fitting}
-use Rattle.trials.specs.Trials.{TrialPlanes, Counters}
-use Rattle.trials.proofs.Ready.{ready-forward, ready-back, between-planes, between-undone}
-use Rattle.trials.proofs.Rounds.{before, before-next, rest-estimate, step-inside, AtPlace, first-place, next-place}
+use Rattle.stage.proofs.Choices.{choices}
+use Rattle.stage.proofs.StepLists.{slice-undone}
+use Rattle.lifting.specs.Passes.{stepOf}
+use Rattle.lifting.specs.Steps.{StepsFit, AtStep}
+use Rattle.lifting.proofs.Table.{step-inside}
+use Rattle.lifting.proofs.Readiness.{at-next, ready-run, ready-undo}
+use Rattle.trials.proofs.Rounds.{before, AtPlace, first-place, next-place, before-next, rest-estimate}
 use Rattle.trials.proofs.round.round.Statement.{statement}
 use Rattle.trials.proofs.round.round.Tie as tie
 
+-- what the loop keeps beside the place: how many turns there are, and the lengths
+record Kept (φ ψ l m : List ℕ) (k end : ℕ) : Type 0 where
+  turns : k ≤ end
+  end-is : end ≡ length φ
+  choices : length ψ ≡ length φ
+  counters : length m ≡ length l
+
 abbrev Inv-loop : tie.InvT-loop
-Inv-loop t1₀ t2₀ t3₀ counters₀ table choices₀ width height transform d estimate e₀ from₀ place₀ place-end t1 t2 t3 counters choices e from place =
-    (place ≤ place-end)
-    × (place-end ≡ length choices₀)
-    × AtPlace width height transform (triple t1₀ t2₀ t3₀) place from (triple t1 t2 t3) choices₀ choices e
-    × Counters d counters
-    × (length counters ≡ length counters₀)
+Inv-loop c1₀ c2₀ c3₀ settings estimate choices₀ counters₀ table e₀ from₀ place₀ place-end c1 c2 c3 choices counters e from place =
+    Kept choices₀ choices counters₀ counters place place-end × AtPlace settings (triple c1₀ c2₀ c3₀) place from (triple c1 c2 c3) choices₀ choices e counters
 
 abbrev μ-loop : tie.MeasureT-loop
-μ-loop t1₀ t2₀ t3₀ counters₀ table choices₀ width height transform d estimate e₀ from₀ place₀ place-end t1 t2 t3 counters choices e from place = place-end - place
+μ-loop c1₀ c2₀ c3₀ settings estimate choices₀ counters₀ table e₀ from₀ place₀ place-end c1 c2 c3 choices counters e from place = place-end - place
 
 abbrev start : tie.At-loop Inv-loop μ-loop → tie.Start Inv-loop μ-loop
 start l = l .before .before .before
 
-abbrev entered : tie.After-step-of Inv-loop μ-loop → tie.At-loop Inv-loop μ-loop
-entered c = c .before .before
+abbrev planes : tie.Start Inv-loop μ-loop → Planes
+planes a = triple (now (a .args .c1)) (now (a .args .c2)) (now (a .args .c3))
 
-abbrev stepped : tie.After-run-steps Inv-loop μ-loop → tie.After-step-of Inv-loop μ-loop
-stepped c = c .before .before .before .before .before
+abbrev list : tie.Start Inv-loop μ-loop → List Step
+list a = steps (a .args .settings .transform)
 
-abbrev ran : tie.After-choose Inv-loop μ-loop → tie.After-run-steps Inv-loop μ-loop
-ran c = c .before .before .before .before .before .before .before .before .before
+-- the planes as they stand in the loop
+at : (l : tie.At-loop Inv-loop μ-loop) → AtStep (start l .args .settings) (l .loop .from) (triple (l .loop .c1) (l .loop .c2) (l .loop .c3))
+at l = at-next (start l .pre .trial .planes) (l .loop .from) (l .loop .choices) _ (omega arith) (l .loop .inv .1 .planes)
 
-abbrev picture : tie.At-loop Inv-loop μ-loop → Planes
-picture l = let a = start l .args in triple (now (a .t1)) (now (a .t2)) (now (a .t3))
+-- as many places as choices
+as-many : (a : tie.Start Inv-loop μ-loop) → length (now (a .args .choices)) ≡ places (list a)
+as-many a = choices (a .args .settings) (now (a .args .choices)) (a .pre .choices) .count
 
-abbrev planes : tie.At-loop Inv-loop μ-loop → Planes
-planes l = triple (l .loop .t1) (l .loop .t2) (l .loop .t3)
+place : (i : tie.In-loop Inv-loop μ-loop) → i .before .loop .place < places (list (start (i .before)))
+place i = let l = i .before in omega (arith, i .loop-test .taken, l .loop .inv .0 .end-is, as-many (start l))
 
-abbrev moved : tie.After-run-steps Inv-loop μ-loop → Planes
-moved c = let l = c .run-steps .last in triple (l .0) (l .1 .0) (l .1 .1 .0)
-
-standing : (l : tie.At-loop Inv-loop μ-loop) →
-    let a = start l .args in
-    TrialPlanes (a .width) (a .height) (a .transform) (a .d) (l .loop .from) (planes l)
-standing l =
-    let s = start l in
-    between-planes (l .loop .from) (l .loop .choices) (planes l) (s .pre .0) (omega arith) (l .loop .inv .2 .planes)
-
--- the place is one of the transform's
-known-place : (c : tie.In-loop Inv-loop μ-loop) → c .before .loop .place < places (steps (start (c .before) .args .transform))
-known-place c =
-    let s = start (c .before) in
-    omega (arith, c .loop-test .taken, c .before .loop .inv .1, choices-fitting (s .args .transform) (now (s .args .choices)) (s .pre .1 .0) .long)
-
--- the step is not before the last place's
-ordered : (c : tie.After-step-of Inv-loop μ-loop) → entered c .loop .from ≤ c .step-of .result
-ordered c = omega (arith, entered c .loop .inv .2 .order (known-place (c .before)), c .step-of .ensures)
-
-inside : (c : tie.After-step-of Inv-loop μ-loop) → c .step-of .result ≤ length (steps (start (entered c) .args .transform))
-inside c = let l = entered c in omega (arith, step-inside (steps (start l .args .transform)) (l .loop .place), c .step-of .ensures)
-
--- the planes before the place's step
-moved-planes : (c : tie.After-run-steps Inv-loop μ-loop) →
-    let l = entered (stepped c) in
-    let a = start l .args in
-    moved c ≡ before (a .width) (a .height) (a .transform) (picture l) (l .loop .choices) (stepped c .step-of .result)
-moved-planes c =
-    let l = entered (stepped c) in
-    let a = start l .args in
-    before-next (a .width) (a .height) (a .transform) (picture l) (l .loop .choices) (l .loop .from) (stepped c .step-of .result) (planes l) (moved c)
-    (ordered (stepped c)) (l .loop .inv .2 .planes) (c .run-steps .ensures)
+-- the steps up to the place's own
+fit : (o : tie.After-step-of Inv-loop μ-loop) → let l = o .before .before in
+    StepsFit (start l .args .settings) (l .loop .choices) (l .loop .from) (o .step-of .result)
+fit o =
+    let l = o .before .before in
+    let a = start l in
+    record {
+      transform = a .pre .trial .allowed .transform-most;
+      order = omega (arith, o .step-of .ensures, l .loop .inv .1 .order (place (o .before)));
+      last = omega (arith, o .step-of .ensures, step-inside (list a) (l .loop .place));
+      choices = l .loop .inv .1 .fit;
+    }
 
 loop-holds : tie.Need-loop-holds Inv-loop μ-loop
 loop-holds c =
-    let s = c .before .before in
-    let a = s .args in (
-      omega arith,
-      refl,
-      first-place (a .width) (a .height) (a .transform) (triple (now (a .t1)) (now (a .t2)) (now (a .t3))) (now (a .choices)) (a .estimate) (s .pre .1 .0) (s .pre .1 .1 .1),
-      s .pre .1 .1 .0 .0,
-      refl,
+    let a = c .before .before in
+    let p = a .pre in (
+      record { turns = omega arith; end-is = refl; choices = refl; counters = refl },
+      first-place (a .args .settings) (planes a) (now (a .args .choices)) (a .args .estimate) (now (a .args .counters)) (p .choices) (p .estimate) (p .trial .counters),
     )
 
 step-of-requires : tie.Need-step-of-requires Inv-loop μ-loop
-step-of-requires c κs = known-place c
+step-of-requires c κs = place c
 
 run-steps-requires : tie.Need-run-steps-requires Inv-loop μ-loop
 run-steps-requires c κs =
-    let n = c .before .before .before .before in
-    let l = entered n in
-    ((start l .pre .0 .known, ordered n, inside n), (l .loop .inv .2 .fit, ready-forward (standing l) (l .loop .choices) (n .step-of .result)))
+    let o = c .before .before .before .before in
+    let l = o .before .before in
+    ready-run (start l .pre .trial .allowed .depth-most) (fit o) (at l)
+
+abbrev stepped : tie.After-run-steps Inv-loop μ-loop → tie.After-step-of Inv-loop μ-loop
+stepped r = r .before .before .before .before .before
+
+-- the planes before the place's step
+arrived : (r : tie.After-run-steps Inv-loop μ-loop) → let o = stepped r in let l = o .before .before in let u = r .run-steps .last in
+    triple (u .0) (u .1 .0) (u .1 .1 .0) ≡ before (start l .args .settings) (planes (start l)) (l .loop .choices) (stepOf (list (start l)) (l .loop .place))
+arrived r =
+    let o = stepped r in
+    let l = o .before .before in
+    let a = start l in
+    rw (← o .step-of .ensures)
+    (before-next (a .args .settings) (planes a) (l .loop .choices) (l .loop .from) (o .step-of .result) _ _ (fit o .order) (l .loop .inv .1 .planes) (r .run-steps .ensures))
 
 choose-requires : tie.Need-choose-requires Inv-loop μ-loop
 choose-requires c κs =
     let r = c .before .before .before .before .before .before .before .before in
-    let n = stepped r in
-    let l = entered n in
-    let s = start l in
-    let a = s .args in
-    let v = l .loop .inv .2 in (
-      between-planes (n .step-of .result) (l .loop .choices) (moved r) (standing l) (ordered n) (r .run-steps .ensures),
-      (
-        (inside n, v .fit, omega (arith, known-place (n .before), choices-fitting (a .transform) (l .loop .choices) (v .fit) .long)),
-        (
-          (l .loop .inv .3, s .pre .1 .1 .0 .1),
-          v .estimate ∙ sym (rest-estimate (a .width) (a .height) (a .transform) (picture l) (l .loop .choices) (n .step-of .result) (moved r) (moved-planes r)),
-        ),
-      ),
-    )
+    let o = stepped r in
+    let l = o .before .before in
+    let a = start l in
+    let s = a .args .settings in
+    let k = stepOf (list a) (l .loop .place) in
+    let v = l .loop .inv .1 in
+    record {
+      trial = record {
+        allowed = a .pre .trial .allowed;
+        step = step-inside (list a) (l .loop .place);
+        planes = at-next (a .pre .trial .planes) k (l .loop .choices) _ (omega arith) (arrived r);
+        counters = v .counters;
+        logarithms = a .pre .trial .logarithms;
+      };
+      choices = v .fit;
+      place = place (o .before);
+      estimate = v .estimate ∙ sym (rest-estimate s (planes a) (l .loop .choices) k _ (arrived r));
+    }
 
 add-place : tie.Need-add-place Inv-loop μ-loop
 add-place c =
-    let n = stepped (ran (c .before .before .before .before .before .before .before)) in
-    let l = entered n in
-    record { fits = omega (arith, n .before .loop-test .taken, l .loop .inv .1, start l .good) }
+    let h = c .before .before .before .before .before .before .before in
+    let r = h .before .before .before .before .before .before .before .before .before in
+    let i = stepped r .before in
+    record { fits = omega (arith, i .loop-test .taken, i .before .loop .inv .0 .end-is, start (i .before) .good) }
 
 loop-less : tie.Need-loop-less Inv-loop μ-loop
 loop-less c = search needs
 
 loop-again : tie.Need-loop-again Inv-loop μ-loop
 loop-again c =
-    let x = c .before .before .before .before .before .before .before in
-    let r = ran x in
-    let n = stepped r in
-    let l = entered n in
-    let a = start l .args in
-    let m = x .choose .last in
-    let e = x .choose .ensures in (
-      omega (arith, n .before .loop-test .taken),
-      l .loop .inv .1,
-      next-place (a .width) (a .height) (a .transform) (picture l) (l .loop .place) (l .loop .from) (n .step-of .result) (planes l) (moved r)
-          (triple (m .0) (m .1 .0) (m .1 .1 .0)) (now (a .choices)) (l .loop .choices) (m .1 .1 .1 .1 .1 .0) (l .loop .e) (x .choose .result)
-          (l .loop .inv .2) (known-place (n .before)) (n .step-of .ensures) (moved-planes r) (e .1 .1 .0) (e .1 .0) (e .0),
-      e .1 .1 .1,
-      x .choose .kept .1 .1 .1 .0 ∙ l .loop .inv .4,
+    let h = c .before .before .before .before .before .before .before in
+    let r = h .before .before .before .before .before .before .before .before .before in
+    let o = stepped r in
+    let l = o .before .before in
+    let a = start l in
+    let kept = l .loop .inv .0 in (
+      record {
+        turns = omega (arith, o .before .loop-test .taken);
+        end-is = kept .end-is;
+        choices = h .choose .kept .1 .1 .1 .1 .1 .1 .0 ∙ kept .choices;
+        counters = h .choose .kept .1 .1 .1 .1 .1 .1 .1 .0 ∙ kept .counters;
+      },
+      rw (o .step-of .ensures) (next-place (a .args .settings) (planes a) (l .loop .inv .1) (place (o .before)) refl (arrived r) (h .choose .ensures)),
     )
 
 undo-steps-requires : tie.Need-undo-steps-requires Inv-loop μ-loop
 undo-steps-requires c κs =
     let l = c .before .before .before .before .before in
-    let s = start l in
-    let v = l .loop .inv .2 in
-    ((s .pre .0 .known, omega arith, v .inside), (v .fit, ready-back (s .pre .0) (l .loop .choices) (l .loop .from) (v .planes)))
+    let a = start l in
+    let v = l .loop .inv .1 in
+    ready-undo (a .pre .trial .allowed .depth-most)
+    (record { transform = a .pre .trial .allowed .transform-most; order = omega arith; last = v .inside; choices = v .fit }) (a .pre .trial .planes) (v .planes)
 
-abbrev finished : tie.After-t33 Inv-loop μ-loop → tie.At-loop Inv-loop μ-loop
-finished c = c .before .before .before .before .before .before .before .before .before
-
--- the picture again
-restored : (c : tie.After-t33 Inv-loop μ-loop) →
-    let m = c .before .before .before .undo-steps .last in
-    triple (m .0) (m .1 .0) (m .1 .1 .0) ≡ picture (finished c)
-restored c =
-    let l = finished c in
-    let a = start l .args in
-    let u = c .before .before .before .undo-steps in
-    let m = u .last in
-    between-undone (a .width) (a .height) (a .transform) 0 (l .loop .from) (l .loop .choices) (picture l) (planes l) (triple (m .0) (m .1 .0) (m .1 .1 .0))
-    (l .loop .inv .2 .planes) (u .ensures)
-
-same-length : tie.Need-same-length Inv-loop μ-loop
-same-length c = ap (λ (x : Planes). length (x .c1)) (restored c)
-
-same-length-2 : tie.Need-same-length-2 Inv-loop μ-loop
-same-length-2 c = ap (λ (x : Planes). length (x .c2)) (restored c)
-
-same-length-3 : tie.Need-same-length-3 Inv-loop μ-loop
-same-length-3 c = ap (λ (x : Planes). length (x .c3)) (restored c)
-
-same-length-4 : tie.Need-same-length-4 Inv-loop μ-loop
-same-length-4 c = finished c .loop .inv .4
-
-same-length-5 : tie.Need-same-length-5 Inv-loop μ-loop
-same-length-5 c =
-    let l = finished c in
-    let s = start l in
-    let t = s .args .transform in
-    choices-fitting t (l .loop .choices) (l .loop .inv .2 .fit) .long ∙ sym (choices-fitting t (now (s .args .choices)) (s .pre .1 .0) .long)
+-- the planes with all steps undone
+restored : (u : tie.After-undo-steps Inv-loop μ-loop) → let a = start (u .before .before .before .before .before .before) in let m = u .undo-steps .last in
+    triple (m .0) (m .1 .0) (m .1 .1 .0) ≡ planes a
+restored u =
+    let l = u .before .before .before .before .before .before in
+    let a = start l in
+    let s = a .args .settings in
+    let ψ = l .loop .choices in
+    u .undo-steps .ensures ∙ ap (undo (setup s ψ) (slice (list a) 0 (l .loop .from))) (l .loop .inv .1 .planes) ∙ slice-undone s ψ 0 (l .loop .from) (planes a)
 
 returns : tie.Need-returns Inv-loop μ-loop
 returns c =
-    let l = finished c in
-    let s = start l in
-    let a = s .args in
-    let v = l .loop .inv .2 in
-    let n : l .loop .place ≡ places (steps (a .transform)) =
-    omega (arith, l .loop .inv .0, l .loop .inv .1, c .before .before .before .before .before .before .before .before .loop-test .left, choices-fitting (a .transform) (now (a .choices)) (s .pre .1 .0) .long) in (
-      v .estimate,
-      (
-        v .choices ∙ ap (λ (k : ℕ). round (choicesEstimate (a .width) (a .height) (a .transform) (picture l)) k (now (a .choices))) n,
-        (restored c, (l .loop .inv .3, v .fit)),
-      ),
-    )
+    let u = c .before .before .before in
+    let f = u .before .before .before .before .before in
+    let l = f .before in
+    let a = start l in
+    let s = a .args .settings in
+    let v = l .loop .inv .1 in
+    let e : l .loop .place ≡ places (list a) = omega (arith, f .loop-test .left, l .loop .inv .0 .turns, l .loop .inv .0 .end-is, as-many a) in
+    record {
+      choices = v .choices ∙ ap (λ (k : ℕ). round (choicesEstimate s (planes a)) k (now (a .args .choices))) e;
+      fit = v .fit;
+      estimate = v .estimate;
+      planes = restored u;
+      counters = v .counters;
+    }
+
+same-length : tie.Need-same-length Inv-loop μ-loop
+same-length c = ap (λ (p : Planes). length (p .c1)) (restored (c .before .before .before))
+
+same-length-2 : tie.Need-same-length-2 Inv-loop μ-loop
+same-length-2 c = ap (λ (p : Planes). length (p .c2)) (restored (c .before .before .before))
+
+same-length-3 : tie.Need-same-length-3 Inv-loop μ-loop
+same-length-3 c = ap (λ (p : Planes). length (p .c3)) (restored (c .before .before .before))
+
+same-length-4 : tie.Need-same-length-4 Inv-loop μ-loop
+same-length-4 c = search needs
+
+same-length-5 : tie.Need-same-length-5 Inv-loop μ-loop
+same-length-5 c = search needs
 
 pub round-spec : {M : Type 1} → statement M
 round-spec =

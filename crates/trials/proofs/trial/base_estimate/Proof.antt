@@ -1,24 +1,23 @@
--- The planes that the steps do not change.
 use borrow.Author.Needs.{needs}
-use mathlib.Core.Path.{_≡_, ap, _∙_, subst}
+use mathlib.Core.Path.{ap, _∙_, subst}
 use mathlib.Core.Bool.{Bool}
-use lib.ListN.{drop}
 use denote.Ref.{now}
 use Rattle.stage.specs.Planes.{Triple, triple}
-use Rattle.stage.specs.Steps.{steps}
-use Rattle.trials.specs.Trials.{changed, others, partEstimate, PartAnswer}
-use Rattle.trials.specs.Code.{readSet}
+use Rattle.trials.specs.Trials.{others, PartFound}
+use Rattle.trials.proofs.TrialSteps.{countable}
 use Rattle.trials.proofs.trial.base_estimate.Statement.{statement}
 use Rattle.trials.proofs.trial.base_estimate.Tie as tie
 
 changed-requires : tie.Need-changed-requires
-changed-requires c κs = search needs
+changed-requires c κs = c .before .pre .allowed .transform-most
 
 others-requires : tie.Need-others-requires
 others-requires c κs = search needs
 
 part-estimate-requires : tie.Need-part-estimate-requires
-part-estimate-requires c κs = search needs
+part-estimate-requires c κs =
+    let p = c .before .before .before .before .pre in
+    record { allowed = p .allowed; planes = countable (p .allowed) (p .planes); counters = p .counters; logarithms = p .logarithms }
 
 same-length : tie.Need-same-length
 same-length c = search needs
@@ -26,13 +25,9 @@ same-length c = search needs
 returns : tie.Need-returns
 returns c =
     let x = c .before .before in
-    let a = x .before .before .before .before .before .args in
-    let q : readSet (x .before .before .others .result) ≡ others (changed (drop (a .step) (steps (a .transform)))) = x .before .before .others .ensures ∙ ap others (x .before .before .before .changed .ensures) in (
-      subst (λ (b : Triple Bool). PartAnswer (partEstimate (a .width) b (triple (now (a .t1)) (now (a .t2)) (now (a .t3)))) (x .part-estimate .result)) q (x .part-estimate .ensures .0),
-      x .part-estimate .ensures .1,
-    )
+    let o = x .before .before in
+    let a = o .before .before .before .args in
+    subst (λ (b : Triple Bool). PartFound (a .settings) b (triple (now (a .c1)) (now (a .c2)) (now (a .c3))) (x .part-estimate .result) (x .part-estimate .last .1 .1 .1 .1 .1 .0)) (o .others .ensures ∙ ap others (o .before .changed .ensures)) (x .part-estimate .ensures)
 
 pub base-estimate-spec : {M : Type 1} → statement M
-base-estimate-spec =
-    tie.close
-    (tie.spec changed-requires others-requires part-estimate-requires same-length returns)
+base-estimate-spec = tie.close (tie.spec changed-requires others-requires part-estimate-requires same-length returns)

@@ -1,0 +1,5 @@
+pub mod Table
+pub mod TransformPasses
+pub mod Quarter
+pub mod Turns
+pub mod Readiness

@@ -1,0 +1,84 @@
+-- Planes are ready before each step: of a picture on its way forward and back again, and of planes within their ranges on the way back.
+use mathlib.Core.Path.{_≡_, refl, sym, ap, _∙_, subst}
+use mathlib.Core.List.{List}
+use Prim.Native.Nat.{ℕ, suc, _+_, _-_, _≤_}
+use native.Mathlib.Omega.{arith}
+use lib.ListN.{length, take, drop}
+use lib.Seq.{take-add}
+use Rattle.integers.specs.Lists.{AllIn}
+use Rattle.integers.specs.Slices.{slice}
+use Rattle.integers.proofs.Slices.{slice-front, slice-back}
+use Rattle.stage.specs.declared.Range.{Range}
+use Rattle.stage.specs.declared.Settings.{Settings}
+use Rattle.stage.specs.declared.Plane.{Plane}
+use Rattle.stage.specs.declared.Plane.the-variants.{C1, C2, C3}
+use Rattle.stage.specs.Planes.{Triple, Planes, get}
+use Rattle.stage.specs.Steps.{Step, steps, run, undo}
+use Rattle.stage.specs.Ranges.{ranges, sampleRanges, finishedRanges, bounded, InRanges}
+use Rattle.stage.specs.Transform.{HasSize, Picture, setup}
+use Rattle.stage.proofs.Triples.{each-plane}
+use Rattle.stage.proofs.Reversal.{run-length, undo-length}
+use Rattle.stage.proofs.StepLists.{ranges-append, run-back, undo-part}
+use Rattle.stage.proofs.StepRanges.{run-in, take-inside, in-inside}
+use Rattle.stage.proofs.Numbers.{finished-within, met-back}
+use Rattle.lifting.specs.Steps.{Ready, StepsFit, RunReady, UndoReady, AtStep}
+
+pub picture-first : {s : Settings} {p : Planes} → Picture s p → AtStep s 0 p
+picture-first x = record { size = x .size; inside = x .samples }
+
+-- further steps on
+pub at-next : {s : Settings} {i : ℕ} {q : Planes} → AtStep s i q → (j : ℕ) (φ : List ℕ) (p : Planes) → i ≤ j → p ≡ run (setup s φ) (slice (steps (s .transform)) i j) q → AtStep s j p
+at-next {s} {i} {q} z j φ p h e =
+    let l = steps (s .transform) in
+    let m = slice l i j in
+    let n : i + (j - i) ≡ j = omega arith in
+    let r : ranges m (ranges (take i l) (sampleRanges s)) ≡ ranges (take j l) (sampleRanges s) =
+    sym (ranges-append (take i l) m (sampleRanges s)) ∙ ap (λ (x : List Step). ranges x (sampleRanges s)) (sym (take-add i (j - i) l) ∙ ap (λ (x : ℕ). take x l) n) in
+    rw e (record {
+      size = λ c. run-length (setup s φ) m q c ∙ z .size c;
+      inside = subst (λ (x : Triple Range). InRanges x (run (setup s φ) m q)) r (run-in (setup s φ) (λ x. refl) m _ q (z .inside));
+    })
+
+small : (p : Planes) → InRanges bounded p → (c : Plane) → AllIn 524288 524288 (get p c)
+small p h = each-plane (λ (c : Plane). AllIn 524288 524288 (get p c)) (h C1) (h C2) (h C3)
+
+module _ {s : Settings} (deep : s .depth ≤ 16) where
+  -- within the ranges of finished planes, which hold those on the way
+  pub at-finished : {k : ℕ} {q : Planes} → AtStep s k q → InRanges (finishedRanges s) q
+  at-finished {k} {q} z = in-inside _ (finishedRanges s) (take-inside (steps (s .transform)) k (sampleRanges s)) q (z .inside)
+
+  pub at-ready : {k : ℕ} {q : Planes} → AtStep s k q → Ready s q
+  at-ready {k} {q} z = record { size = z .size; small = small q (in-inside (finishedRanges s) bounded (finished-within s deep) q (at-finished z)) }
+
+  module _ {φ : List ℕ} {from to : ℕ} (fit : StepsFit s φ from to) {q : Planes} (z : AtStep s from q) where
+    between : (k : ℕ) → from ≤ k → Ready s (run (setup s φ) (slice (steps (s .transform)) from k) q)
+    between k h = at-ready (at-next z k φ _ h refl)
+
+    pub ready-run : RunReady s φ from to q
+    ready-run = record { fit = fit; before = λ k h _. between k h }
+
+    -- and back
+    pub ready-undo : {p : Planes} → p ≡ run (setup s φ) (slice (steps (s .transform)) from to) q → UndoReady s φ from to p
+    ready-undo {p} e = record {
+      fit = fit;
+      before = λ k h g.
+          subst (Ready s) (sym (ap (undo (setup s φ) (slice (steps (s .transform)) (suc k) to)) e ∙ run-back s φ from (suc k) to q (omega arith) (omega arith)))
+          (between (suc k) (omega arith));
+    }
+
+  -- the way back of planes within their ranges, and forward again
+  module _ {φ : List ℕ} {n : ℕ} (fit : StepsFit s φ 0 n) (all : n ≡ length (steps (s .transform))) {q : Planes} (size : HasSize s q) (inside : InRanges (finishedRanges s) q) where
+    undone : (k : ℕ) → Ready s (undo (setup s φ) (drop k (steps (s .transform))) q)
+    undone k = record {
+      size = λ c. undo-length (setup s φ) (drop k (steps (s .transform))) q c ∙ size c;
+      small = small _ (met-back s k φ q deep inside);
+    }
+
+    pub ready-inverse : UndoReady s φ 0 n q
+    ready-inverse = record { fit = fit; before = λ k _ _. rw (slice-back (steps (s .transform)) (suc k) n all) (undone (suc k)) }
+
+    pub ready-again : {u : Planes} → u ≡ undo (setup s φ) (slice (steps (s .transform)) 0 n) q → RunReady s φ 0 n u
+    ready-again {u} e = record {
+      fit = fit;
+      before = λ k _ _. rw (e, slice-back (steps (s .transform)) 0 n all, slice-front (steps (s .transform)) k, undo-part s φ k q) (undone k);
+    }

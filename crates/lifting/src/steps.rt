@@ -1,0 +1,192 @@
+// Lifting steps forward and back, in place. Each step is one pass over a plane, but for RCT's third, whose two filtered values take
+// two passes over each row.
+ghost use mathlib.Core.Path.{_≡_};
+ghost use mathlib.Core.Bool.{cond};
+ghost use Prim.Native.Nat.{_<_, _*_};
+ghost use lib.ListN.{length, getD};
+ghost use Rattle.integers.specs.Lists.{Changed};
+ghost use Rattle.integers.specs.Slices.{slice};
+ghost use Rattle.stage.specs.Filter.{filtered};
+ghost use Rattle.stage.specs.Planes.{triple};
+ghost use Rattle.stage.specs.Steps.{steps, step, run, undo};
+ghost use Rattle.stage.specs.Transform.{setup};
+ghost use Rattle.kernel.specs.Pass.{applied};
+ghost use Rattle.kernel.specs.Lifting.{Liftable};
+ghost use Rattle.lifting.specs.Passes.{passAt, stepAt, reversedIf, number, firstOther, passed, quarterAt};
+ghost use Rattle.lifting.specs.Steps.{PassReady, QuarterReady, RowsChanged, StepReady, RunReady, UndoReady};
+use crate::passes::Pass;
+use crate::passes::pass_at;
+use kernel::lift_rows;
+use stage::Plane;
+use stage::Settings;
+use stage::same_plane;
+
+fn pass_number(x: Pass, back: bool) -> u32
+    ensures { λ r. ⌜ r ≡ number back x ⌝ }
+{
+    if back { x.back } else { x.forward }
+}
+
+// The first of the two planes other than one.
+fn first_other(plane: Plane) -> Plane
+    ensures { λ r. ⌜ r ≡ firstOther plane ⌝ }
+{
+    match plane {
+        Plane::C1 => Plane::C2,
+        Plane::C2 => Plane::C1,
+        Plane::C3 => Plane::C1,
+    }
+}
+
+// Rows from .. to − 1 of plane c by a pass with plane a, or else with plane b.
+fn lift_by(
+    c: &mut [i32],
+    a: &[i32],
+    b: &[i32],
+    width: usize,
+    height: usize,
+    first: bool,
+    filter: usize,
+    pass: u32,
+    from: usize,
+    to: usize,
+)
+    requires { ⌜ Liftable width height filter pass from to (cond first (now a) (now b)) (now c) ⌝ }
+    ensures { λ _. ⌜ Changed (λ i x. applied pass x (filtered width height filter (cond first (now (a .entry)) (now (b .entry))) i)) (from * width) (to * width) (now (c .entry)) (now (c .exit)) ⌝ }
+{
+    if first {
+        lift_rows(c, a, width, height, filter, pass, from, to);
+    } else {
+        lift_rows(c, b, width, height, filter, pass, from, to);
+    }
+}
+
+// Rows from .. to − 1 of one plane, by the pass of a place under a filter.
+fn lift_plane(
+    c1: &mut [i32],
+    c2: &mut [i32],
+    c3: &mut [i32],
+    settings: Settings,
+    place: usize,
+    filter: usize,
+    back: bool,
+    from: usize,
+    to: usize,
+)
+    requires { ⌜ PassReady settings place filter from to (triple (now c1) (now c2) (now c3)) ⌝ }
+    ensures { λ _. ⌜ RowsChanged (passed settings back filter (passAt (settings .transform) place) (triple (now (c1 .entry)) (now (c2 .entry)) (now (c3 .entry)))) (passAt (settings .transform) place .changed) settings from to (triple (now (c1 .entry)) (now (c2 .entry)) (now (c3 .entry))) (triple (now (c1 .exit)) (now (c2 .exit)) (now (c3 .exit))) ⌝ }
+{
+    let x = pass_at(settings.transform, place);
+    let n = pass_number(x, back);
+    let w = settings.width as usize;
+    let h = settings.height as usize;
+    let changed = x.changed;
+    let read = x.read;
+    let first = same_plane(read, first_other(changed));
+    match changed {
+        Plane::C1 => lift_by(c1, c2, c3, w, h, first, filter, n, from, to),
+        Plane::C2 => lift_by(c2, c1, c3, w, h, first, filter, n, from, to),
+        Plane::C3 => lift_by(c3, c1, c2, w, h, first, filter, n, from, to),
+    }
+}
+
+// RCT's third step, or back: rows from .. to − 1 of plane c by a quarter of the filtered values of planes a and b. Two null filters
+// leave c as it is.
+fn lift_quarter(
+    c: &mut [i32],
+    a: &[i32],
+    b: &[i32],
+    settings: Settings,
+    f: usize,
+    g: usize,
+    back: bool,
+    from: usize,
+    to: usize,
+)
+    requires { ⌜ QuarterReady settings f g from to (now a) (now b) (now c) ⌝ }
+    ensures { λ _. ⌜ Changed (quarterAt (settings .width) (settings .height) back f g (now (a .entry)) (now (b .entry))) (from * settings .width) (to * settings .width) (now (c .entry)) (now (c .exit)) ⌝ }
+{
+    if (f == 12) & (g == 12) {
+        return;
+    }
+    let first = pass_number(pass_at(0, 2), back);
+    let second = pass_number(pass_at(0, 3), back);
+    let w = settings.width as usize;
+    let h = settings.height as usize;
+    let mut y = from;
+    while y < to {
+        lift_rows(c, a, w, h, f, first, y, y + 1);
+        lift_rows(c, b, w, h, g, second, y, y + 1);
+        y += 1;
+    }
+}
+
+fn filter_at(choices: &[u8], place: usize) -> usize
+    requires { ⌜ place < length (now choices) ⌝ }
+    ensures { λ r. ⌜ r ≡ getD (now (choices .entry)) place 0 ⌝ }
+{
+    choices[place] as usize
+}
+
+// Step k of a transform, or back.
+fn run_step(
+    c1: &mut [i32],
+    c2: &mut [i32],
+    c3: &mut [i32],
+    settings: Settings,
+    choices: &[u8],
+    k: usize,
+    back: bool,
+)
+    requires { ⌜ StepReady settings (now choices) k (triple (now c1) (now c2) (now c3)) ⌝ }
+    ensures { λ _. ⌜ triple (now (c1 .exit)) (now (c2 .exit)) (now (c3 .exit)) ≡ step (setup settings (now (choices .entry))) (reversedIf back (stepAt (settings .transform) k)) (triple (now (c1 .entry)) (now (c2 .entry)) (now (c3 .entry))) ⌝ }
+{
+    let h = settings.height as usize;
+    let f = filter_at(choices, k);
+    if (settings.transform == 0) & (k == 2) {
+        let g = filter_at(choices, 3);
+        lift_quarter(c2, c1, c3, settings, f, g, back, 0, h);
+    } else {
+        lift_plane(c1, c2, c3, settings, k, f, back, 0, h);
+    }
+}
+
+// Steps from .. to − 1 of a transform.
+pub fn run_steps(
+    c1: &mut [i32],
+    c2: &mut [i32],
+    c3: &mut [i32],
+    settings: Settings,
+    choices: &[u8],
+    from: usize,
+    to: usize,
+)
+    requires { ⌜ RunReady settings (now choices) from to (triple (now c1) (now c2) (now c3)) ⌝ }
+    ensures { λ _. ⌜ triple (now (c1 .exit)) (now (c2 .exit)) (now (c3 .exit)) ≡ run (setup settings (now (choices .entry))) (slice (steps (settings .transform)) from to) (triple (now (c1 .entry)) (now (c2 .entry)) (now (c3 .entry))) ⌝ }
+{
+    let mut k = from;
+    while k < to {
+        run_step(c1, c2, c3, settings, choices, k, false);
+        k += 1;
+    }
+}
+
+// The same steps undone, the last first.
+pub fn undo_steps(
+    c1: &mut [i32],
+    c2: &mut [i32],
+    c3: &mut [i32],
+    settings: Settings,
+    choices: &[u8],
+    from: usize,
+    to: usize,
+)
+    requires { ⌜ UndoReady settings (now choices) from to (triple (now c1) (now c2) (now c3)) ⌝ }
+    ensures { λ _. ⌜ triple (now (c1 .exit)) (now (c2 .exit)) (now (c3 .exit)) ≡ undo (setup settings (now (choices .entry))) (slice (steps (settings .transform)) from to) (triple (now (c1 .entry)) (now (c2 .entry)) (now (c3 .entry))) ⌝ }
+{
+    let mut k = to;
+    while from < k {
+        k -= 1;
+        run_step(c1, c2, c3, settings, choices, k, true);
+    }
+}

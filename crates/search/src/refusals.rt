@@ -1,0 +1,61 @@
+// What the calling program can get wrong beyond a transform's settings, in 01's order, from numbers and lengths alone.
+ghost use mathlib.Core.Path.{_≡_};
+ghost use mathlib.Core.Bool.{cond};
+ghost use Prim.Native.Nat.{_+_, _*_};
+ghost use lib.Dec.{leb};
+ghost use Rattle.stage.specs.Answers.{refusal};
+ghost use Rattle.stage.specs.Planes.{triple};
+ghost use Rattle.stage.specs.Ranges.{widest};
+ghost use Rattle.stage.specs.Settings.{Allowed};
+ghost use Rattle.stage.specs.Search.{allAtLeast, scratchTests};
+use stage::Settings;
+use transform::ranges::widest;
+use transform::settings::refusal;
+
+// Whether there are 2 × D + 1 counters.
+fn counters_fit(settings: Settings, counters: usize) -> bool
+    requires { ⌜ Allowed settings ⌝ }
+    ensures { λ r. ⌜ r ≡ leb (2 * widest settings + 1) counters ⌝ }
+{
+    let d = widest(settings) as usize;
+    2 * d + 1 <= counters
+}
+
+// Whether trial planes of m1, m2 and m3 numbers have room for n each.
+fn planes_fit(n: usize, m1: usize, m2: usize, m3: usize) -> bool
+    ensures { λ r. ⌜ r ≡ allAtLeast n (triple m1 m2 m3) ⌝ }
+{
+    (n <= m1) & ((n <= m2) & (n <= m3))
+}
+
+pub fn select(b: bool, x: u32, y: u32) -> u32
+    ensures { λ r. ⌜ r ≡ cond b x y ⌝ }
+{
+    if b { x } else { y }
+}
+
+// The number of the first test up to 9 that fails, or 0. `choices` says whether the call's own test of the choices holds; n1, n2 and
+// n3 are the lengths of the picture's planes, m1, m2 and m3 those of the trial planes.
+pub fn scratch_refusal(
+    settings: Settings,
+    choices: bool,
+    n1: usize,
+    n2: usize,
+    n3: usize,
+    m1: usize,
+    m2: usize,
+    m3: usize,
+    counters: usize,
+) -> u32
+    ensures { λ r. ⌜ r ≡ refusal (scratchTests settings choices (triple n1 n2 n3) (triple m1 m2 m3) counters) ⌝ }
+{
+    let n = refusal(settings, choices, n1, n2, n3);
+    if n != 0 {
+        return n;
+    }
+    select(
+        planes_fit(n1, m1, m2, m3) & counters_fit(settings, counters),
+        0,
+        9,
+    )
+}

@@ -1,0 +1,96 @@
+-- What holds once the tests of a call's settings and scratch are past.
+use mathlib.Core.Path.{_≡_, refl, sym, _∙_, subst}
+use mathlib.Core.Bool.{Bool}
+use mathlib.Core.Logic.{_↔_}
+use Prim.Native.Nat.{ℕ, _+_, _*_, _≤_, _<_}
+use native.Mathlib.Nat.{mul-le-mul}
+use native.Mathlib.Omega.{arith}
+use lib.Dec.{T, leb, eqb, leb→le, le→leb, eqb→eq, eqb-refl}
+use lib.ListN.{length}
+use Rattle.integers.proofs.Booleans.{and-iff}
+use Rattle.stage.specs.Settings.{Settings, pixels, Allowed}
+use Rattle.stage.specs.Planes.{Plane, C1, C2, C3, Triple, Planes, get}
+use Rattle.stage.specs.Ranges.{widest}
+use Rattle.stage.specs.Transform.{lengths, allEqual, settingsTests, HasSize}
+use Rattle.stage.specs.Search.{allAtLeast, scratchFits}
+use Rattle.stage.proofs.Answers.{Holds, between-iff, sized-iff}
+use Rattle.stage.proofs.Triples.{each-test}
+
+eq-test : {m n : ℕ} → m ≡ n → T (eqb m n)
+eq-test {m} e = subst (λ (k : ℕ). T (eqb m k)) e (eqb-refl m)
+
+pub allEqual-iff : (n : ℕ) (l : Triple ℕ) → T (allEqual n l) ↔ ((c : Plane) → get l c ≡ n)
+allEqual-iff n l =
+    let e = each-test (λ c. eqb (get l c) n) in
+    (λ t c. eqb→eq (get l c) n (e .0 t c), λ w. e .1 (λ c. eq-test (w c)))
+
+-- The settings are allowed, the call's own test of the choices holds, and the planes, of lengths l, have the picture's size.
+pub record ValidSettings (s : Settings) (choices : Bool) (l : Triple ℕ) : Type 0 where
+  pub allowed : Allowed s
+  pub choices-fit : T choices
+  pub size : (c : Plane) → get l c ≡ pixels s
+
+pub settings-iff : (s : Settings) (choices : Bool) (l : Triple ℕ) → Holds (settingsTests s choices l) ↔ ValidSettings s choices l
+settings-iff s choices l =
+    let size = sized-iff (s .width) (s .height) in
+    let depth = between-iff 2 16 (s .depth) in
+    let all = allEqual-iff (pixels s) l in (
+      λ k. let d = size .0 (k .0) in let b = depth .0 (k .1 .0) in record {
+        allowed = record {
+          width-least = d .0 .0;
+          width-most = d .0 .1;
+          height-least = d .1 .0;
+          height-most = d .1 .1;
+          depth-least = b .0;
+          depth-most = b .1;
+          transform-most = leb→le (s .transform) 3 (k .1 .1 .0);
+        };
+        choices-fit = k .1 .1 .1 .0;
+        size = all .0 (k .1 .1 .1 .1 .0);
+      },
+      λ v. let a = v .allowed in (
+        size .1 ((a .width-least, a .width-most), (a .height-least, a .height-most)),
+        (
+          depth .1 (a .depth-least, a .depth-most),
+          (le→leb (s .transform) 3 (a .transform-most), (v .choices-fit, (all .1 (v .size), tt))),
+        ),
+      ),
+    )
+
+-- lengths by plane
+pub length-at : (p : Planes) (c : Plane) → get (lengths p) c ≡ length (get p c)
+length-at p C1 = refl
+length-at p C2 = refl
+length-at p C3 = refl
+
+pub has-size : {s : Settings} {choices : Bool} (p : Planes) → ValidSettings s choices (lengths p) → HasSize s p
+has-size p v c = sym (length-at p c) ∙ v .size c
+
+valid : {s : Settings} (choices : Bool) (p : Planes) → Allowed s → T choices → HasSize s p → ValidSettings s choices (lengths p)
+valid choices p a t z = record { allowed = a; choices-fit = t; size = λ c. length-at p c ∙ z c }
+
+-- the tests of planes p pass exactly where all that is so
+pub valid-iff : (s : Settings) (choices : Bool) (p : Planes) → Holds (settingsTests s choices (lengths p)) ↔ ((Allowed s × T choices) × HasSize s p)
+valid-iff s choices p =
+    let i = settings-iff s choices (lengths p) in
+    (λ h. let v = i .0 h in ((v .allowed, v .choices-fit), has-size p v), λ k. i .1 (valid choices p (k .0 .0) (k .0 .1) (k .1)))
+
+-- how many pixels a picture has
+pub pixels-some : {s : Settings} → Allowed s → 1 ≤ pixels s
+pixels-some {s} a = omega (arith, mul-le-mul (a .width-least) (a .height-least))
+
+pub pixels-most : {s : Settings} → Allowed s → pixels s ≤ 67108864
+pixels-most {s} a = omega (arith, mul-le-mul (a .width-most) (a .height-most))
+
+-- The trial planes, of lengths l, have room for the picture, and there are enough counters.
+pub record ValidScratch (s : Settings) (l : Triple ℕ) (counters : ℕ) : Type 0 where
+  pub room : (c : Plane) → pixels s ≤ get l c
+  pub enough : 2 * widest s < counters
+
+pub scratch-valid : (s : Settings) (l : Triple ℕ) (counters : ℕ) → T (scratchFits s l counters) → ValidScratch s l counters
+scratch-valid s l counters t =
+    let a = and-iff (allAtLeast (pixels s) l) (leb (2 * widest s + 1) counters) .0 t in
+    record {
+      room = λ c. leb→le (pixels s) (get l c) (each-test (λ (c : Plane). leb (pixels s) (get l c)) .0 (a .0) c);
+      enough = omega (arith, leb→le (2 * widest s + 1) counters (a .1));
+    }

@@ -1,0 +1,99 @@
+// The limits that 01 names, from both sides, and a case of each other refusal.
+use crate::text::print_answer;
+use crate::text::print_choices;
+use crate::text::print_planes;
+use case_text::print;
+use stage::Settings;
+use transform::forward;
+use transform::inverse;
+
+fn settings(width: u32, height: u32, depth: u32, transform: u32) -> Settings {
+    Settings {
+        width: width,
+        height: height,
+        depth: depth,
+        transform: transform,
+    }
+}
+
+// Forward and, on what that leaves, back. Only the answers are printed.
+fn answers(width: u32, height: u32, c1: &mut [i32], c2: &mut [i32], c3: &mut [i32]) {
+    let s = settings(width, height, 8, 0);
+    let choices = [1u8; 4];
+    print_choices(s, &choices);
+    print_answer(b" forward", forward(s, &choices, c1, c2, c3));
+    print_answer(b" inverse", inverse(s, &choices, c1, c2, c3));
+    print(b"\n");
+}
+
+// One row and one column.
+fn longest() {
+    let mut c1 = [1i32; 8192];
+    let mut c2 = [2i32; 8192];
+    let mut c3 = [3i32; 8192];
+    answers(8192, 1, &mut c1, &mut c2, &mut c3);
+    answers(1, 8192, &mut c1, &mut c2, &mut c3);
+}
+
+fn too_long() {
+    let mut c1 = [1i32; 8193];
+    let mut c2 = [2i32; 8193];
+    let mut c3 = [3i32; 8193];
+    answers(8193, 1, &mut c1, &mut c2, &mut c3);
+    answers(1, 8193, &mut c1, &mut c2, &mut c3);
+}
+
+// Forward and back of one pixel.
+fn pixel(s: Settings, choices: &[u8], red: i32, green: i32, blue: i32) {
+    let mut c1 = [red];
+    let mut c2 = [green];
+    let mut c3 = [blue];
+    print_choices(s, choices);
+    print(b" planes");
+    print_planes(&c1, &c2, &c3);
+    let a = forward(s, choices, &mut c1, &mut c2, &mut c3);
+    print_answer(b" forward", a);
+    print_planes(&c1, &c2, &c3);
+    let b = inverse(s, choices, &mut c1, &mut c2, &mut c3);
+    print_answer(b" inverse", b);
+    print_planes(&c1, &c2, &c3);
+    print(b"\n");
+}
+
+fn of_depth(depth: u32) {
+    pixel(settings(1, 1, depth, 0), &[0; 4], 3, 1, 2);
+}
+
+fn of_samples(red: i32, green: i32, blue: i32) {
+    pixel(settings(1, 1, 8, 0), &[0; 4], red, green, blue);
+}
+
+fn of_settings(width: u32, height: u32, transform: u32, choices: &[u8]) {
+    pixel(settings(width, height, 8, transform), choices, 10, 200, 60);
+}
+
+// Sizes of no sample and of two, a transform past the last, and choices too many, too few and too high, with the highest that pass.
+fn other_settings() {
+    of_settings(0, 1, 0, &[0; 4]);
+    of_settings(1, 0, 0, &[0; 4]);
+    of_settings(2, 1, 0, &[0; 4]);
+    of_settings(1, 1, 4, &[0; 4]);
+    of_settings(1, 1, 2, &[0; 3]);
+    of_settings(1, 1, 3, &[0; 2]);
+    of_settings(1, 1, 2, &[12, 12]);
+    of_settings(1, 1, 2, &[12, 13]);
+}
+
+pub(crate) fn limits() {
+    longest();
+    too_long();
+    of_depth(1);
+    of_depth(2);
+    of_depth(16);
+    of_depth(17);
+    of_samples(255, 0, 255);
+    of_samples(256, 0, 255);
+    of_samples(0, 256, 0);
+    of_samples(0, 0, -1);
+    other_settings();
+}

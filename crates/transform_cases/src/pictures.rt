@@ -1,0 +1,233 @@
+// Generated pictures of small sizes over all transforms and depths, with each filter at each place.
+ghost use Prim.Native.Nat.{_≤_};
+ghost use Rattle.case_pictures.specs.Generated.{Levels};
+use crate::text::print_answer;
+use crate::text::print_choices;
+use crate::text::print_planes;
+use case_pictures::choice;
+use case_pictures::fill;
+use case_pictures::is_filled;
+use case_pictures::levels;
+use case_text::print;
+use case_text::print_field;
+use case_text::print_sample;
+use stage::Answer;
+use stage::Settings;
+use transform::forward;
+use transform::inverse;
+
+// The generator's number before each plane, and M + 1.
+struct Generated {
+    x1: u32,
+    x2: u32,
+    x3: u32,
+    levels: u32,
+}
+
+// Whether the planes hold the picture.
+fn print_compared(p: Generated, c1: &[i32], c2: &[i32], c3: &[i32])
+    requires { ⌜ Levels (p .levels) ⌝ }
+{
+    let first = is_filled(c1, p.levels, p.x1);
+    let second = is_filled(c2, p.levels, p.x2);
+    let third = is_filled(c3, p.levels, p.x3);
+    if first & (second & third) {
+        print(b" the picture\n");
+    } else {
+        print(b" another picture\n");
+    }
+}
+
+fn run(s: Settings, choices: &[u8], c1: &mut [i32], c2: &mut [i32], c3: &mut [i32]) {
+    let a = forward(s, choices, c1, c2, c3);
+    print_answer(b"forward", a);
+    print_planes(c1, c2, c3);
+    print(b"\n");
+}
+
+fn undo(s: Settings, p: Generated, choices: &[u8], c1: &mut [i32], c2: &mut [i32], c3: &mut [i32])
+    requires { ⌜ Levels (p .levels) ⌝ }
+{
+    let a = inverse(s, choices, c1, c2, c3);
+    print_answer(b"inverse", a);
+    print_compared(p, c1, c2, c3);
+}
+
+// Puts a number at an index and answers the number that stood there.
+fn replace(plane: &mut [i32], i: usize, z: i32) -> i32 {
+    if i < plane.len() {
+        let old = plane[i];
+        plane[i] = z;
+        old
+    } else {
+        z
+    }
+}
+
+fn replace_in(c1: &mut [i32], c2: &mut [i32], c3: &mut [i32], plane: u32, i: usize, z: i32) -> i32 {
+    match plane {
+        1 => replace(c1, i, z),
+        2 => replace(c2, i, z),
+        _ => replace(c3, i, z),
+    }
+}
+
+// The inverse of damaged planes. What it accepts, as another picture goes there, is printed and run again.
+fn undo_damaged(s: Settings, choices: &[u8], c1: &mut [i32], c2: &mut [i32], c3: &mut [i32]) {
+    let a = inverse(s, choices, c1, c2, c3);
+    print_answer(b" inverse", a);
+    let Answer::Done = a else {
+        print(b"\n");
+        return;
+    };
+    print_planes(c1, c2, c3);
+    let b = forward(s, choices, c1, c2, c3);
+    print_answer(b" forward", b);
+    print(b"\n");
+}
+
+// Forward again; then the middle number of a finished plane is replaced by z, and put back when the inverse was tried.
+fn damage(
+    s: Settings,
+    choices: &[u8],
+    c1: &mut [i32],
+    c2: &mut [i32],
+    c3: &mut [i32],
+    plane: u32,
+    z: i32,
+) {
+    forward(s, choices, c1, c2, c3);
+    let middle = c1.len() / 2;
+    print_field(b"plane", plane);
+    print(b" damaged by ");
+    print_sample(z);
+    let old = replace_in(c1, c2, c3, plane, middle, z);
+    undo_damaged(s, choices, c1, c2, c3);
+    replace_in(c1, c2, c3, plane, middle, old);
+}
+
+// What a finished plane is damaged by.
+fn damaged_number(kind: u32) -> i32 {
+    match kind {
+        0 => 0,
+        1 => -1,
+        2 => 65535,
+        _ => i32::MIN,
+    }
+}
+
+fn there_and_back(
+    s: Settings,
+    p: Generated,
+    choices: &[u8],
+    c1: &mut [i32],
+    c2: &mut [i32],
+    c3: &mut [i32],
+)
+    requires { ⌜ Levels (p .levels) ⌝ }
+{
+    run(s, choices, c1, c2, c3);
+    undo(s, p, choices, c1, c2, c3);
+}
+
+fn show(
+    k: u32,
+    s: Settings,
+    p: Generated,
+    choices: &[u8],
+    c1: &mut [i32],
+    c2: &mut [i32],
+    c3: &mut [i32],
+)
+    requires { ⌜ Levels (p .levels) ⌝ }
+{
+    print_field(b"picture", k);
+    print(b" ");
+    print_choices(s, choices);
+    print(b"\n");
+    there_and_back(s, p, choices, c1, c2, c3);
+    damage(s, choices, c1, c2, c3, 1 + k % 3, damaged_number(k / 4 % 4));
+    undo(s, p, choices, c1, c2, c3);
+}
+
+// Fills the planes with the picture of a number.
+fn fill_and_show(
+    k: u32,
+    s: Settings,
+    choices: &[u8],
+    c1: &mut [i32],
+    c2: &mut [i32],
+    c3: &mut [i32],
+)
+    requires { ⌜ s .depth ≤ 16 ⌝ }
+{
+    let n = levels(s.depth);
+    let x2 = fill(c1, n, k);
+    let x3 = fill(c2, n, x2);
+    fill(c3, n, x3);
+    let p = Generated {
+        x1: k,
+        x2: x2,
+        x3: x3,
+        levels: n,
+    };
+    show(k, s, p, choices, c1, c2, c3);
+}
+
+fn lend(k: u32, s: Settings, choices: &[u8], n: usize)
+    requires { ⌜ (s .depth ≤ 16) × (n ≤ 20) ⌝ }
+{
+    let mut c1 = [0i32; 20];
+    let mut c2 = [0i32; 20];
+    let mut c3 = [0i32; 20];
+    fill_and_show(k, s, choices, &mut c1[..n], &mut c2[..n], &mut c3[..n]);
+}
+
+// With the filters of picture k, as many as its transform has places.
+fn choose(k: u32, s: Settings, n: usize)
+    requires { ⌜ (s .depth ≤ 16) × (n ≤ 20) ⌝ }
+{
+    let f1 = choice(k / 4, 0);
+    let f2 = choice(k / 4, 1);
+    let f3 = choice(k / 4, 2);
+    let f4 = choice(k / 4, 3);
+    let transform = s.transform;
+    match transform {
+        2 => lend(k, s, &[f1, f2], n),
+        3 => lend(k, s, &[f1, f2, f3], n),
+        _ => lend(k, s, &[f1, f2, f3, f4], n),
+    }
+}
+
+fn picture(k: u32, width: u32, height: u32, n: usize)
+    requires { ⌜ n ≤ 20 ⌝ }
+{
+    let s = Settings {
+        width: width,
+        height: height,
+        depth: 2 + k % 15,
+        transform: k % 4,
+    };
+    choose(k, s, n);
+}
+
+fn sized(k: u32) {
+    match k % 7 {
+        0 => picture(k, 1, 1, 1),
+        1 => picture(k, 1, 6, 6),
+        2 => picture(k, 7, 1, 7),
+        3 => picture(k, 2, 2, 4),
+        4 => picture(k, 3, 3, 9),
+        5 => picture(k, 5, 4, 20),
+        _ => picture(k, 4, 3, 12),
+    }
+}
+
+// Each transform with each filter at each of its places.
+pub(crate) fn pictures() {
+    let mut k = 0;
+    while k < 52 {
+        sized(k);
+        k += 1;
+    }
+}
