@@ -1,5 +1,5 @@
-// The filter search and the estimate of choices (01, "Estimate and search"), on three planes that hold a picture and are left as they
-// were, with counters that are zero before and after.
+// The filter search and the estimate of choices (01, "Estimate and search"), on three planes that hold a picture, with counters that
+// are zero before and after.
 mod place;
 mod round;
 mod trial;
@@ -17,7 +17,7 @@ use trial::base_estimate;
 use trial::finish;
 use trial::trial;
 
-// The estimate of a picture under choices, on planes that need not be kept: they are left with all steps run.
+// The estimate of a picture under choices, on planes that need not be kept: nothing is promised of what they then hold.
 pub fn finished_estimate(
     settings: Settings,
     choices: &[u8],
@@ -61,7 +61,7 @@ fn clear_choices(choices: &mut [u8])
     }
 }
 
-// The winning filters of a picture, left in the choices, and their estimate. What the choices hold on entry does not matter.
+// The winning filters of a picture, left in the choices, and their estimate; the planes are left as they were. What the choices hold on entry does not matter.
 pub fn search_picture(
     settings: Settings,
     count: u32,
