@@ -3,17 +3,27 @@ use mathlib.Core.Path.{_≡_, sym, ap, _∙_}
 use mathlib.Core.List.{List}
 use Prim.Native.Nat.{ℕ, suc, _+_, _≤_, _<_}
 use native.Mathlib.Omega.{arith}
+use lib.ListN.{length}
 use Rattle.integers.specs.Slices.{slice}
+use Rattle.integers.proofs.Slices.{slice-none}
 use Rattle.stage.specs.declared.Settings.{Settings}
-use Rattle.stage.specs.Planes.{Planes}
-use Rattle.stage.specs.Steps.{steps, step, run, undo, reversed}
+use Rattle.stage.specs.declared.Plane.{Plane}
+use Rattle.stage.specs.Planes.{Planes, get}
+use Rattle.stage.specs.Steps.{Step, steps, step, run, undo, reversed}
 use Rattle.stage.specs.Transform.{setup}
-use Rattle.stage.proofs.StepLists.{run-more, undo-more}
+use Rattle.stage.proofs.StepLists.{run-more, undo-more, run-same, undo-same}
 use Rattle.lifting.specs.Passes.{anyStep, stepAt}
 use Rattle.lifting.specs.Steps.{Ready, StepsFit, StepReady, RunReady, UndoReady}
 
 step-ready : {s : Settings} {φ : List ℕ} {from to : ℕ} (k : ℕ) {q : Planes} → StepsFit s φ from to → k < to → Ready s q → StepReady s φ k q
 step-ready k f h r = record { transform = f .transform; step = omega (arith, f .last); choices = f .choices; planes = r }
+
+module _ {s : Settings} {φ : List ℕ} {from to : ℕ} {p : Planes} (d : RunReady s φ from to p) where
+  pub run-none : p ≡ run (setup s φ) (slice (steps (s .transform)) from from) p
+  run-none = sym (ap (λ (l : List Step). run (setup s φ) l p) (slice-none (steps (s .transform)) from))
+
+  pub run-long : (k : ℕ) (q : Planes) → q ≡ run (setup s φ) (slice (steps (s .transform)) from k) p → (c : Plane) → length (get q c) ≡ length (get p c)
+  run-long k = run-same (setup s φ) (slice (steps (s .transform)) from k) p
 
 module _ {s : Settings} {φ : List ℕ} {from to : ℕ} {p : Planes} (d : RunReady s φ from to p) (k : ℕ) (q : Planes) (low : from ≤ k) (high : k < to)
     (e : q ≡ run (setup s φ) (slice (steps (s .transform)) from k) p) where
@@ -24,6 +34,13 @@ module _ {s : Settings} {φ : List ℕ} {from to : ℕ} {p : Planes} (d : RunRea
   run-turn r g =
       g ∙ ap (step (setup s φ) (stepAt (s .transform) k)) e
       ∙ sym (run-more (setup s φ) (steps (s .transform)) anyStep from k p low (omega (arith, d .fit .last)))
+
+module _ {s : Settings} {φ : List ℕ} {from to : ℕ} {p : Planes} (d : UndoReady s φ from to p) where
+  pub undo-none : p ≡ undo (setup s φ) (slice (steps (s .transform)) to to) p
+  undo-none = sym (ap (λ (l : List Step). undo (setup s φ) l p) (slice-none (steps (s .transform)) to))
+
+  pub undo-long : (k : ℕ) (q : Planes) → q ≡ undo (setup s φ) (slice (steps (s .transform)) k to) p → (c : Plane) → length (get q c) ≡ length (get p c)
+  undo-long k = undo-same (setup s φ) (slice (steps (s .transform)) k to) p
 
 -- j is k + 1
 module _ {s : Settings} {φ : List ℕ} {from to : ℕ} {p : Planes} (d : UndoReady s φ from to p) (k : ℕ) (q : Planes) (low : from ≤ k) (high : k < to)

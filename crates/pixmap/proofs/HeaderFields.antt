@@ -11,7 +11,7 @@ use Rattle.stage.specs.Pixmap.{isWhite, first, endsStretch, staysInside, afterS
 use Rattle.text.specs.declared.reading.Number.{Number}
 use Rattle.text.specs.Numbers.{NumberAt}
 use Rattle.text.proofs.Parts.{at-place}
-use Rattle.text.proofs.Numbers.{count-some, rest-read}
+use Rattle.text.proofs.Numbers.{count-some, all-digits, rest-read}
 use Rattle.pixmap.specs.declared.header_text.Field.{Field}
 use Rattle.pixmap.specs.HeaderFields.{FieldAt, FieldsOf}
 
@@ -59,13 +59,14 @@ module _ (file : List ℕ) (c : Bool) (i : ℕ) where
 
 -- ---- a field and a header, from what their parts give
 module _ (file : List ℕ) (at s b : ℕ) (p : Bool) (n : Number) where
-  pub field-read : drop s file ≡ afterStretch false (drop at file) → b ≡ first (drop at file) → p ≡ isWhite b → NumberAt file s 100000 n
+  pub field-read : drop s file ≡ afterStretch false (drop at file) → b ≡ first (drop at file) → p ≡ isWhite b → NumberAt file s (length file) 100000 n
       → FieldAt file at (record { formed = p && not (eqb (n .digits) 0); value = n .value; at = n .at })
   unfolding field
   field-read hs hb hp hn =
       let d = count-some (drop s file) in
       let c = ap (λ k. not (eqb k 0)) (hn .digits-is) in
       let e = rest-read hn in
+      let a = all-digits file s in
       record { formed-is = cc; value-is = cc; rest-is = cc }
 
 module _ (file : List ℕ) (letter x y z : ℕ) (w h m : Field) (t : Bool) where

@@ -74,7 +74,7 @@ fn read_field(file: &[u8], at: usize) -> Field
     ensures { λ r. ⌜ FieldAt (now (file .entry)) at r ⌝ }
 {
     let s = skip_stretch(file, at);
-    let n = text::read_number(file, s, 100000);
+    let n = text::read_number(file, s, file.len(), 100000);
     Field {
         formed: is_white(byte(file, at)) & (n.digits != 0),
         value: n.value as u32,

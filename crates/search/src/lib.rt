@@ -17,7 +17,7 @@ use stage::Settings;
 use stage::is_between;
 use transform::ranges::is_picture;
 use transform::settings::choices_fit;
-use trials::finished_estimate;
+use trials::estimate_picture;
 use trials::search_picture;
 
 // The estimate and N, or a refusal's number.
@@ -72,9 +72,10 @@ pub fn estimate(
         return Estimated::Refused(11);
     }
     prepare(t1, t2, t3, counters, c1, c2, c3);
-    let e = finished_estimate(
+    let e = estimate_picture(
         settings,
         choices,
+        false,
         &mut t1[..n],
         &mut t2[..n],
         &mut t3[..n],

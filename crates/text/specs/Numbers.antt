@@ -3,15 +3,16 @@ use mathlib.Core.Path.{_≡_}
 use mathlib.Core.Bool.{true}
 use mathlib.Core.List.{List}
 use Prim.Native.Nat.{ℕ, _+_, _≤_, min}
-use lib.ListN.{drop}
+use lib.ListN.{take, drop}
 use Rattle.stage.specs.Decimal.{isDigit, decimal, digitCount}
 use Rattle.text.specs.declared.reading.Number.{Number}
 
--- The number that stands at a place, kept to a limit; how many digits it has; and the place behind them.
-pub record NumberAt (text : List ℕ) (at limit : ℕ) (r : Number) : Type 0 where
-  pub value-is : r .value ≡ min (decimal 0 (drop at text)) limit
-  pub digits-is : r .digits ≡ digitCount (drop at text)
-  pub end-is : r .at ≡ at + digitCount (drop at text)
+-- The number that the first digits at a place are, at most `most` of them, kept to a limit; how many these are; and the place behind
+-- them.
+pub record NumberAt (text : List ℕ) (at most limit : ℕ) (r : Number) : Type 0 where
+  pub value-is : r .value ≡ min (decimal 0 (take most (drop at text))) limit
+  pub digits-is : r .digits ≡ digitCount (take most (drop at text))
+  pub end-is : r .at ≡ at + digitCount (take most (drop at text))
 
 -- a number and a digit that make a number of 64 bits
 pub record Extendable (n b limit : ℕ) : Type 0 where

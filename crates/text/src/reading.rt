@@ -1,6 +1,8 @@
 // Decimal numbers of any length, read at a place of a text. A place may lie anywhere, also behind the text's end.
 ghost use mathlib.Core.Path.{_≡_};
+ghost use mathlib.Core.Bool.{_&&_};
 ghost use Prim.Native.Nat.{_+_, _-_, _*_, _≤_, min};
+ghost use lib.Dec.{ltb};
 ghost use Rattle.stage.specs.Decimal.{isDigit};
 ghost use Rattle.text.specs.Numbers.{NumberAt, Extendable};
 
@@ -11,10 +13,11 @@ pub struct Number {
     pub at: usize,
 }
 
-fn is_digit(b: u8) -> bool
-    ensures { λ r. ⌜ r ≡ isDigit b ⌝ }
+// Whether a byte is one digit more, where at most `most` are read.
+fn is_next(b: u8, digits: usize, most: usize) -> bool
+    ensures { λ r. ⌜ r ≡ (isDigit b && ltb digits most) ⌝ }
 {
-    (48 <= b) & (b <= 57)
+    (48 <= b) & (b <= 57) & (digits < most)
 }
 
 // A number with one digit more, at most `limit`.
@@ -26,17 +29,17 @@ fn with_digit(n: u64, b: u8, limit: u64) -> u64
     if m < limit { m } else { limit }
 }
 
-// All digits that stand at `at`. With a limit of 2^32 each number of 32 bits is told from those above.
-pub fn read_number(text: &[u8], at: usize, limit: u64) -> Number
+// The digits that stand at `at`, or the first `most` of them. With a limit of 2^32 each number of 32 bits is told from those above.
+pub fn read_number(text: &[u8], at: usize, most: usize, limit: u64) -> Number
     requires { ⌜ limit ≤ 4294967296 ⌝ }
-    ensures { λ r. ⌜ NumberAt (now (text .entry)) at limit r ⌝ }
+    ensures { λ r. ⌜ NumberAt (now (text .entry)) at most limit r ⌝ }
 {
     let mut n: u64 = 0;
     let mut digits = 0;
     let mut i = at;
     while i < text.len() {
         let b = text[i];
-        if !is_digit(b) {
+        if !is_next(b, digits, most) {
             return Number {
                 value: n,
                 digits: digits,

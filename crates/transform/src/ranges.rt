@@ -1,6 +1,6 @@
 // Ranges of finished planes (01's table), the widest, and the tests of planes against ranges.
 ghost use mathlib.Core.Path.{_≡_};
-ghost use Prim.Native.Nat.{_≤_, max};
+ghost use Prim.Native.Nat.{_≤_, _-_, _*_, max};
 ghost use Rattle.stage.specs.Planes.{triple};
 ghost use Rattle.stage.specs.Ranges.{maxSample, finishedRanges, rangeRow, widest, withinRanges};
 ghost use Rattle.stage.specs.Settings.{Allowed};
@@ -50,7 +50,29 @@ fn max_sample(depth: u32) -> u32
     power_of_two(depth) - 1
 }
 
-// M = 2^b − 1, H = 2^(b−1) and q = 2^(b−2) at depth b.
+// The rows of 01's table, by M = 2^b − 1, H = 2^(b−1) and q = 2^(b−2) at depth b.
+fn rct_row(m: u32, h: u32) -> Ranges
+    requires { ⌜ (1 ≤ h) × (h ≤ 65536) ⌝ }
+    ensures { λ r. ⌜ readRanges r ≡ rangeRow m m h (3 * h - 2) m m ⌝ }
+{
+    range_row(m, m, h, 3 * h - 2, m, m)
+}
+
+fn ycocg_r_row(m: u32, h: u32, q: u32) -> Ranges
+    requires { ⌜ (1 ≤ h) × (h ≤ 65536) ⌝ }
+    requires { ⌜ (1 ≤ q) × (q ≤ 65536) ⌝ }
+    ensures { λ r. ⌜ readRanges r ≡ rangeRow m m (3 * h - 2) (3 * h - 1) (5 * q - 1) (9 * q - 3) ⌝ }
+{
+    range_row(m, m, 3 * h - 2, 3 * h - 1, 5 * q - 1, 9 * q - 3)
+}
+
+fn ldgeb_row(m: u32, h: u32) -> Ranges
+    requires { ⌜ (1 ≤ h) × (h ≤ 65536) ⌝ }
+    ensures { λ r. ⌜ readRanges r ≡ rangeRow (h - 1) (3 * h - 1) m m (3 * h - 1) (3 * h - 2) ⌝ }
+{
+    range_row(h - 1, 3 * h - 1, m, m, 3 * h - 1, 3 * h - 2)
+}
+
 fn finished_ranges(settings: Settings) -> Ranges
     requires { ⌜ Allowed settings ⌝ }
     ensures { λ r. ⌜ readRanges r ≡ finishedRanges settings ⌝ }
@@ -58,13 +80,12 @@ fn finished_ranges(settings: Settings) -> Ranges
     let m = max_sample(settings.depth);
     let h = power_of_two(settings.depth - 1);
     let q = power_of_two(settings.depth - 2);
-    let t = 3 * h;
     let transform = settings.transform;
     match transform {
-        0 => range_row(m, m, h, t - 2, m, m),
-        1 => range_row(m, m, t - 2, t - 1, 5 * q - 1, 9 * q - 3),
+        0 => rct_row(m, h),
+        1 => ycocg_r_row(m, h, q),
         2 => range_row(0, m, m, m, m, m),
-        _ => range_row(h - 1, t - 1, m, m, t - 1, t - 2),
+        _ => ldgeb_row(m, h),
     }
 }
 

@@ -127,6 +127,10 @@ pub trial-first : (s : Settings) (p : Planes) (φ : List ℕ) → trialEstimate 
 unfolding trialEstimate choicesEstimate transformed
 trial-first s p φ = refl
 
+pub all-steps : (s : Settings) (u : Bool) (p : Planes) (φ : List ℕ) → cond u p (run (setup s φ) (drop 0 (steps (s .transform))) p) ≡ cond u p (transformed s φ p)
+unfolding transformed
+all-steps s u p φ = refl
+
 -- the rounds of a search start with filter 0 at every place
 pub searched-is : (s : Settings) (n : ℕ) (φ : List ℕ) {p q : Planes} {ψ χ : List ℕ} → length φ ≡ places (steps (s .transform)) → ψ ≡ replicate (length φ) 0 → q ≡ p
     → χ ≡ rounds (choicesEstimate s q) (places (steps (s .transform))) n ψ → χ ≡ searched (choicesEstimate s p) (places (steps (s .transform))) n

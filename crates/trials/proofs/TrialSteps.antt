@@ -3,7 +3,7 @@
 use mathlib.Core.Path.{_≡_, refl, sym, ap, ap₂, _∙_}
 use mathlib.Core.Bool.{Bool, true, false, cond, not, _||_}
 use mathlib.Core.List.{List, [], _∷_}
-use Prim.Native.Nat.{ℕ, zero, suc, _+_}
+use Prim.Native.Nat.{ℕ, zero, suc, _+_, _≤_}
 use native.Mathlib.Omega.{arith}
 use borrow.Author.Tests.{eqb-false, lt-ltb, le-ltb}
 use lib.Dec.{ltb, leb·suc-suc}
@@ -14,24 +14,25 @@ use Rattle.integers.specs.Parts.{floorDiv}
 use Rattle.integers.specs.Slices.{slice}
 use Rattle.integers.proofs.Booleans.{false-fails}
 use Rattle.integers.proofs.Lists.{mapIndexed-same}
-use Rattle.integers.proofs.Slices.{slice-back}
+use Rattle.integers.proofs.Slices.{slice-none, slice-back}
 use Rattle.stage.specs.declared.Settings.{Settings}
 use Rattle.stage.specs.declared.Plane.{Plane}
 use Rattle.stage.specs.declared.Plane.the-variants.{C1, C2, C3}
 use Rattle.stage.specs.Settings.{Allowed}
 use Rattle.stage.specs.Planes.{Triple, Planes, triple, get, put, samePlane}
 use Rattle.stage.specs.Filter.{filtered}
-use Rattle.stage.specs.Steps.{Setup, Step, Term, _ᵈ_, _⊕_, _/2, _/4, value, lift, lifted, step, run, steps}
+use Rattle.stage.specs.Steps.{Setup, Step, Term, _ᵈ_, _⊕_, _/2, _/4, value, lift, lifted, step, run, undo, steps}
 use Rattle.stage.specs.Ranges.{widest}
 use Rattle.stage.specs.Transform.{setup}
 use Rattle.stage.specs.Estimate.{planeEstimate, pictureEstimate}
 use Rattle.stage.proofs.Triples.{get-other}
+use Rattle.stage.proofs.StepLists.{slice-undone}
 use Rattle.stage.proofs.Numbers.{extent-widest, widest-most}
 use Rattle.stage.proofs.Validity.{pixels-some, pixels-most}
 use Rattle.estimate.specs.Counting.{Countable}
 use Rattle.lifting.specs.Passes.{hasPlace, stepOf, changes, lastChange}
-use Rattle.lifting.specs.Steps.{AtStep}
-use Rattle.lifting.proofs.Readiness.{at-finished}
+use Rattle.lifting.specs.Steps.{AtStep, StepsFit, UndoReady}
+use Rattle.lifting.proofs.Readiness.{at-finished, ready-undo}
 use Rattle.trials.specs.Trials.{changed, others, partEstimate, baseEstimate, trialEstimate}
 
 -- ---- two tests, both false
@@ -123,6 +124,22 @@ trial-sum s k n φ q p {b} {base} {e} all ran set-is base-is e-is =
     let r : p ≡ run (setup s φ) l q = ran ∙ ap (λ (m : List Step). run (setup s φ) m q) (slice-back (steps (s .transform)) k n all) in
     let x : e ≡ partEstimate w (changed l) (run (setup s φ) l q) = e-is ∙ ap (λ (c : Triple Bool). partEstimate w c p) set-is ∙ ap (partEstimate w (changed l)) r in
     omega (arith, base-is, x, parts-estimate w l q (run (setup s φ) l q) (λ c. run-unchanged (setup s φ) l c q))
+
+-- ---- the steps from k on, run and undone, or only run
+module _ {s : Settings} {φ : List ℕ} {k n : ℕ} (fit : StepsFit s φ k n) (q : Planes) {p : Planes} (ran : p ≡ run (setup s φ) (slice (steps (s .transform)) k n) q) where
+  pub ready-left : s .depth ≤ 16 → AtStep s k q → (u : Bool) {b : ℕ} → b ≡ cond u k n → UndoReady s φ b n p
+  ready-left deep z true e = rw e (ready-undo deep fit z ran)
+  ready-left deep z false e = rw e (record {
+    fit = record { transform = fit .transform; order = omega arith; last = fit .last; choices = fit .choices };
+    before = λ i h g. absurd (omega arith);
+  })
+
+  pub planes-left : n ≡ length (steps (s .transform)) → (u : Bool) {b : ℕ} {o : Planes} → b ≡ cond u k n → o ≡ undo (setup s φ) (slice (steps (s .transform)) b n) p
+      → o ≡ cond u q (run (setup s φ) (drop k (steps (s .transform))) q)
+  planes-left all true e h = h ∙ ap₂ (λ (i : ℕ) (r : Planes). undo (setup s φ) (slice (steps (s .transform)) i n) r) e ran ∙ slice-undone s φ k n q
+  planes-left all false e h =
+      h ∙ ap (λ (m : List Step). undo (setup s φ) m p) (ap (λ (i : ℕ). slice (steps (s .transform)) i n) e ∙ slice-none (steps (s .transform)) n) ∙ ran
+      ∙ ap (λ (m : List Step). run (setup s φ) m q) (slice-back (steps (s .transform)) k n all)
 
 -- ---- planes that stand before a step can be counted
 pub countable : {s : Settings} {k : ℕ} {q : Planes} → Allowed s → AtStep s k q → (c : Plane) → Countable (s .width) (widest s) (get q c)

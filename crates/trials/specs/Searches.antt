@@ -1,5 +1,6 @@
 -- The whole estimate and the whole search, on the picture's own planes.
 use mathlib.Core.Path.{_≡_}
+use mathlib.Core.Bool.{Bool, true, cond}
 use mathlib.Core.List.{List}
 use Prim.Native.Nat.{ℕ}
 use Rattle.stage.specs.declared.Settings.{Settings}
@@ -7,7 +8,7 @@ use Rattle.stage.specs.Settings.{Allowed}
 use Rattle.stage.specs.Planes.{Planes}
 use Rattle.stage.specs.Steps.{steps, places}
 use Rattle.stage.specs.Ranges.{widest}
-use Rattle.stage.specs.Transform.{Picture}
+use Rattle.stage.specs.Transform.{Picture, transformed}
 use Rattle.stage.specs.Search.{searched, choicesEstimate}
 use Rattle.estimate.specs.Counting.{Counters}
 
@@ -17,18 +18,13 @@ pub record PictureReady (s : Settings) (p : Planes) (l : List ℕ) : Type 0 wher
   pub picture : Picture s p
   pub counters : Counters (widest s) l
 
--- the estimate r of choices φ was found, and counters m are as counters l were
-pub record FinishedFound (s : Settings) (p : Planes) (l φ : List ℕ) (r : ℕ) (m : List ℕ) : Type 0 where
+-- the estimate r of choices φ was found; planes q are as planes p were, or p transformed; counters m are as counters l were
+pub record EstimateFound (s : Settings) (undone : Bool) (p : Planes) (l φ : List ℕ) (r : ℕ) (q : Planes) (m : List ℕ) : Type 0 where
   pub estimate : r ≡ choicesEstimate s p φ
-  pub counters : m ≡ l
-
--- and planes q are as planes p were
-pub record EstimateFound (s : Settings) (p : Planes) (l φ : List ℕ) (r : ℕ) (q : Planes) (m : List ℕ) : Type 0 where
-  pub estimate : r ≡ choicesEstimate s p φ
-  pub planes : q ≡ p
+  pub planes : q ≡ cond undone p (transformed s φ p)
   pub counters : m ≡ l
 
 -- n rounds of the search found choices φ with the estimate r
 pub record SearchFound (s : Settings) (n : ℕ) (p : Planes) (l : List ℕ) (r : ℕ) (φ : List ℕ) (q : Planes) (m : List ℕ) : Type 0 where
   pub choices : φ ≡ searched (choicesEstimate s p) (places (steps (s .transform))) n
-  pub found : EstimateFound s p l φ r q m
+  pub found : EstimateFound s true p l φ r q m

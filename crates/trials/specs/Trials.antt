@@ -1,11 +1,10 @@
 -- A trial repeats only the steps from its place's step on, and estimates only the planes that those change.
 use mathlib.Core.Path.{_≡_}
-use mathlib.Core.Bool.{Bool, cond, not}
+use mathlib.Core.Bool.{Bool, true, cond, not}
 use mathlib.Core.List.{List}
 use Prim.Native.Nat.{ℕ, _+_, _≤_, _<_}
 use lib.Dec.{T, ltb}
 use lib.ListN.{length, drop, set}
-use Rattle.integers.specs.Slices.{slice}
 use Rattle.stage.specs.declared.Settings.{Settings}
 use Rattle.stage.specs.declared.Plane.{Plane}
 use Rattle.stage.specs.declared.Plane.the-variants.{C1, C2, C3}
@@ -79,16 +78,10 @@ pub record ChoicesReady (s : Settings) (k b : ℕ) (q : Planes) (φ l table : Li
   pub choices : T (choicesFit s φ)
   pub base : PartAnswer (baseEstimate s k q) b
 
--- its estimate is answered, planes p are q with the steps from k on run, the counters zero again
-pub record Finished (s : Settings) (k : ℕ) (q : Planes) (φ : List ℕ) (r : ℕ) (p : Planes) (l : List ℕ) : Type 0 where
+-- its estimate is answered; planes p are as they were if the steps from k on were undone, else with these run; the counters are zero again
+pub record TrialFound (s : Settings) (k : ℕ) (undone : Bool) (q : Planes) (φ : List ℕ) (r : ℕ) (p : Planes) (l : List ℕ) : Type 0 where
   pub estimate : r ≡ trialEstimate s k q φ
-  pub planes : (n : ℕ) → n ≡ length (steps (s .transform)) → p ≡ run (setup s φ) (slice (steps (s .transform)) k n) q
-  pub counters : Counters (widest s) l
-
--- or planes p are as they were
-pub record TrialFound (s : Settings) (k : ℕ) (q : Planes) (φ : List ℕ) (r : ℕ) (p : Planes) (l : List ℕ) : Type 0 where
-  pub estimate : r ≡ trialEstimate s k q φ
-  pub planes : p ≡ q
+  pub planes : p ≡ cond undone q (run (setup s φ) (drop k (steps (s .transform))) q)
   pub counters : Counters (widest s) l
 
 -- ---- places
@@ -108,7 +101,7 @@ pub record FilterReady (s : Settings) (x : Place) (f : ℕ) (q : Planes) (φ l t
 
 pub record FilterTried (s : Settings) (x : Place) (f : ℕ) (q : Planes) (φ : List ℕ) (r : ℕ) (p : Planes) (ψ l : List ℕ) : Type 0 where
   pub choices : ψ ≡ set φ (x .place) f
-  pub found : TrialFound s (x .step) q (set φ (x .place) f) r p l
+  pub found : TrialFound s (x .step) true q (set φ (x .place) f) r p l
 
 -- a filter f with estimate e takes the lead only if e is lower
 abbrev pub leads : Best → ℕ → ℕ → Best
@@ -129,7 +122,7 @@ pub record ChooseReady (s : Settings) (k x : ℕ) (q : Planes) (φ l table : Lis
 -- the winner at place k was chosen, with planes that stand before its step j
 pub record Chosen (s : Settings) (j k : ℕ) (q : Planes) (φ : List ℕ) (r : ℕ) (p : Planes) (ψ l : List ℕ) : Type 0 where
   pub choices : ψ ≡ set φ k (winner (trialEstimate s j q) φ k 13)
-  pub found : TrialFound s j q ψ r p l
+  pub found : TrialFound s j true q ψ r p l
 
 -- ---- rounds: choices φ that fit, with their estimate x
 pub record RoundReady (s : Settings) (x : ℕ) (q : Planes) (φ l table : List ℕ) : Type 0 where

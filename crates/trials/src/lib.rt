@@ -10,35 +10,17 @@ ghost use lib.ListN.{length, replicate};
 ghost use Rattle.stage.specs.Planes.{triple};
 ghost use Rattle.stage.specs.Steps.{steps, places};
 ghost use Rattle.stage.specs.Transform.{choicesFit};
-ghost use Rattle.trials.specs.Searches.{PictureReady, FinishedFound, EstimateFound, SearchFound};
+ghost use Rattle.trials.specs.Searches.{PictureReady, EstimateFound, SearchFound};
 use round::rounds;
 use stage::Settings;
 use trial::base_estimate;
-use trial::finish;
 use trial::trial;
 
-// The estimate of a picture under choices, on planes that need not be kept: nothing is promised of what they then hold.
-pub fn finished_estimate(
-    settings: Settings,
-    choices: &[u8],
-    c1: &mut [i32],
-    c2: &mut [i32],
-    c3: &mut [i32],
-    counters: &mut [u32],
-) -> u32
-    requires { ⌜ PictureReady settings (triple (now c1) (now c2) (now c3)) (now counters) ⌝ }
-    requires { ⌜ T (choicesFit settings (now choices)) ⌝ }
-    ensures { λ r. ⌜ FinishedFound settings (triple (now (c1 .entry)) (now (c2 .entry)) (now (c3 .entry))) (now (counters .entry)) (now (choices .entry)) r (now (counters .exit)) ⌝ }
-{
-    let table = logs::table();
-    let base = base_estimate(c1, c2, c3, settings, 0, counters, &table);
-    finish(c1, c2, c3, settings, 0, base, choices, counters, &table)
-}
-
-// The same on planes that are left as they were.
+// The estimate of a picture under choices; the planes are left transformed, or as they were: `undone`.
 pub fn estimate_picture(
     settings: Settings,
     choices: &[u8],
+    undone: bool,
     c1: &mut [i32],
     c2: &mut [i32],
     c3: &mut [i32],
@@ -46,11 +28,22 @@ pub fn estimate_picture(
 ) -> u32
     requires { ⌜ PictureReady settings (triple (now c1) (now c2) (now c3)) (now counters) ⌝ }
     requires { ⌜ T (choicesFit settings (now choices)) ⌝ }
-    ensures { λ r. ⌜ EstimateFound settings (triple (now (c1 .entry)) (now (c2 .entry)) (now (c3 .entry))) (now (counters .entry)) (now (choices .entry)) r (triple (now (c1 .exit)) (now (c2 .exit)) (now (c3 .exit))) (now (counters .exit)) ⌝ }
+    ensures { λ r. ⌜ EstimateFound settings undone (triple (now (c1 .entry)) (now (c2 .entry)) (now (c3 .entry))) (now (counters .entry)) (now (choices .entry)) r (triple (now (c1 .exit)) (now (c2 .exit)) (now (c3 .exit))) (now (counters .exit)) ⌝ }
 {
     let table = logs::table();
     let base = base_estimate(c1, c2, c3, settings, 0, counters, &table);
-    trial(c1, c2, c3, settings, 0, base, choices, counters, &table)
+    trial(
+        c1,
+        c2,
+        c3,
+        settings,
+        0,
+        base,
+        undone,
+        choices,
+        counters,
+        &table,
+    )
 }
 
 fn clear_choices(choices: &mut [u8])
@@ -61,7 +54,8 @@ fn clear_choices(choices: &mut [u8])
     }
 }
 
-// The winning filters of a picture, left in the choices, and their estimate; the planes are left as they were. What the choices hold on entry does not matter.
+// The winning filters of a picture, left in the choices, and their estimate; the planes are left as they were. What the choices hold
+// on entry does not matter.
 pub fn search_picture(
     settings: Settings,
     count: u32,
@@ -76,7 +70,7 @@ pub fn search_picture(
     ensures { λ r. ⌜ SearchFound settings count (triple (now (c1 .entry)) (now (c2 .entry)) (now (c3 .entry))) (now (counters .entry)) r (now (choices .exit)) (triple (now (c1 .exit)) (now (c2 .exit)) (now (c3 .exit))) (now (counters .exit)) ⌝ }
 {
     clear_choices(choices);
-    let e = estimate_picture(settings, choices, c1, c2, c3, counters);
+    let e = estimate_picture(settings, choices, true, c1, c2, c3, counters);
     let table = logs::table();
     rounds(c1, c2, c3, settings, count, e, choices, counters, &table)
 }

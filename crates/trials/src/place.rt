@@ -63,6 +63,7 @@ fn try_filter(
         settings,
         at.step,
         at.base,
+        true,
         choices,
         counters,
         table,

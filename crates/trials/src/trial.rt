@@ -7,7 +7,7 @@ ghost use Rattle.stage.specs.Planes.{triple};
 ghost use Rattle.stage.specs.Steps.{steps};
 ghost use Rattle.stage.specs.Estimate.{planeEstimate};
 ghost use Rattle.estimate.specs.Counting.{PlaneReady, PlaneFound};
-ghost use Rattle.trials.specs.Trials.{changed, others, readSet, PartReady, PartFound, TrialReady, ChoicesReady, Finished, TrialFound};
+ghost use Rattle.trials.specs.Trials.{changed, others, readSet, PartReady, PartFound, TrialReady, ChoicesReady, TrialFound};
 use lifting::passes::last_change;
 use lifting::passes::step_count;
 use lifting::steps::run_steps;
@@ -101,29 +101,15 @@ pub fn base_estimate(
     part_estimate(c1, c2, c3, settings, set, counters, table)
 }
 
-// The estimate of the choices, for planes that stand before a step and are left with all steps run. `base` is the estimate of the
-// planes that no step from there on changes.
-pub fn finish(
-    c1: &mut [i32],
-    c2: &mut [i32],
-    c3: &mut [i32],
-    settings: Settings,
-    step: usize,
-    base: u32,
-    choices: &[u8],
-    counters: &mut [u32],
-    table: &[u16; 4096],
-) -> u32
-    requires { ⌜ ChoicesReady settings step base (triple (now c1) (now c2) (now c3)) (now choices) (now counters) (now table) ⌝ }
-    ensures { λ r. ⌜ Finished settings step (triple (now (c1 .entry)) (now (c2 .entry)) (now (c3 .entry))) (now (choices .entry)) r (triple (now (c1 .exit)) (now (c2 .exit)) (now (c3 .exit))) (now (counters .exit)) ⌝ }
+// The step that steps up to `end` are undone to: none is, if they are not undone.
+fn undone_to(undone: bool, step: usize, end: usize) -> usize
+    ensures { λ r. ⌜ r ≡ cond undone step end ⌝ }
 {
-    let n = step_count(settings.transform);
-    run_steps(c1, c2, c3, settings, choices, step, n);
-    let set = changed(settings.transform, step);
-    base + part_estimate(c1, c2, c3, settings, set, counters, table)
+    if undone { step } else { end }
 }
 
-// The same, and the planes are left as they were.
+// The estimate of the choices, for planes that stand before a step. `base` is the estimate of the planes that no step from there on
+// changes. The planes are left with all steps run, or as they were: `undone`.
 pub fn trial(
     c1: &mut [i32],
     c2: &mut [i32],
@@ -131,15 +117,18 @@ pub fn trial(
     settings: Settings,
     step: usize,
     base: u32,
+    undone: bool,
     choices: &[u8],
     counters: &mut [u32],
     table: &[u16; 4096],
 ) -> u32
     requires { ⌜ ChoicesReady settings step base (triple (now c1) (now c2) (now c3)) (now choices) (now counters) (now table) ⌝ }
-    ensures { λ r. ⌜ TrialFound settings step (triple (now (c1 .entry)) (now (c2 .entry)) (now (c3 .entry))) (now (choices .entry)) r (triple (now (c1 .exit)) (now (c2 .exit)) (now (c3 .exit))) (now (counters .exit)) ⌝ }
+    ensures { λ r. ⌜ TrialFound settings step undone (triple (now (c1 .entry)) (now (c2 .entry)) (now (c3 .entry))) (now (choices .entry)) r (triple (now (c1 .exit)) (now (c2 .exit)) (now (c3 .exit))) (now (counters .exit)) ⌝ }
 {
-    let e = finish(c1, c2, c3, settings, step, base, choices, counters, table);
     let n = step_count(settings.transform);
-    undo_steps(c1, c2, c3, settings, choices, step, n);
+    run_steps(c1, c2, c3, settings, choices, step, n);
+    let set = changed(settings.transform, step);
+    let e = base + part_estimate(c1, c2, c3, settings, set, counters, table);
+    undo_steps(c1, c2, c3, settings, choices, undone_to(undone, step, n), n);
     e
 }

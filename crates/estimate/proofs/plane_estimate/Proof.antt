@@ -65,9 +65,6 @@ mul-result c = record { fits = omega (arith, difference c .small) }
 sub-result : tie.Need-sub-result
 sub-result c = difference c .below
 
-same-length : tie.Need-same-length
-same-length c = search needs
-
 returns : tie.Need-returns
 returns c =
     let e = difference c in
@@ -93,5 +90,5 @@ plane-estimate-spec =
     log-requires
     mul-result
     sub-result
-    same-length
+    (λ c. search needs)
     returns)

@@ -40,18 +40,12 @@ lift-means-requires c κs =
     let null : s .args .filter ≡ 12 → ⊥ = λ e. t .match .rest .1 (inr e) in
     record { least = omega arith; most = omega arith; whole = s .pre }
 
-same-length : tie.Need-same-length
-same-length c = search needs
-
 returns : tie.Need-returns
 returns c =
     let t = c .before .before .before in
     let s = t .before .args in
     changed-as _ _ (c .before .lift-pointwise .ensures) refl refl
     (λ i x p q. ap (applied (s .pass) x) (filtered-pointwise (s .width) (s .height) (s .filter) (now (s .a)) i (t .match .keys1)))
-
-same-length-2 : tie.Need-same-length-2
-same-length-2 c = search needs
 
 returns-2 : tie.Need-returns-2
 returns-2 c = search needs
@@ -64,7 +58,7 @@ lift-rows-spec =
     mul-lift-pointwise-2
     lift-pointwise-requires
     lift-means-requires
-    same-length
+    (λ c. search needs)
     returns
-    same-length-2
+    (λ c. search needs)
     returns-2)

@@ -82,15 +82,6 @@ fill-requires-2 c κs = record { bytes = three-bytes (c .before .before .before 
 fill-requires-3 : tie.Need-fill-requires-3
 fill-requires-3 c κs = record { bytes = three-bytes (c .before .before .before .before .before .before .before) C3; within = omega arith }
 
-same-length : tie.Need-same-length
-same-length c = search needs
-
-same-length-2 : tie.Need-same-length-2
-same-length-2 c = search needs
-
-same-length-3 : tie.Need-same-length-3
-same-length-3 c = search needs
-
 returns-3 : tie.Need-returns-3
 returns-3 c =
     let f2 = c .before .before .before .before in
@@ -117,7 +108,5 @@ planes-spec =
     fill-requires
     fill-requires-2
     fill-requires-3
-    same-length
-    same-length-2
-    same-length-3
+    (λ c. search needs) (λ c. search needs) (λ c. search needs)
     returns-3)

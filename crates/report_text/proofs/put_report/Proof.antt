@@ -17,9 +17,6 @@ picture w = ap headerReply (sym (w .width .given .1)) ∙ w .before .before .hea
 put-refusal-requires : tie.Need-put-refusal-requires
 put-refusal-requires c κs = search needs
 
-same-length : tie.Need-same-length
-same-length c = search needs
-
 returns : tie.Need-returns
 returns c =
     let p = c .before .before in
@@ -41,18 +38,12 @@ enum-known-width c = search needs
 put-pixmap-requires : tie.Need-put-pixmap-requires
 put-pixmap-requires c κs = record { header = sym (picture (c .before .before)); short = omega arith; room = search needs }
 
-same-length-2 : tie.Need-same-length-2
-same-length-2 c = search needs
-
 returns-2 : tie.Need-returns-2
 returns-2 c =
     let p = c .before .before in
     let m = p .before .before .before in
     let e = m .before .before .before in
     report-as (report-refused (now (e .before .before .before .args .file)) _ (omega arith) (ap headerReply (sym (m .n .given .1)) ∙ m .before .before .header .ensures)) (p .put-refusal2 .ensures)
-
-same-length-3 : tie.Need-same-length-3
-same-length-3 c = search needs
 
 returns-3 : tie.Need-returns-3
 returns-3 c =
@@ -66,14 +57,14 @@ put-report-spec =
     tie.close
     (tie.spec
     put-refusal-requires
-    same-length
+    (λ c. search needs)
     returns
     header-requires
     enum-known-n
     put-refusal-requires-2
     enum-known-width
     put-pixmap-requires
-    same-length-2
+    (λ c. search needs)
     returns-2
-    same-length-3
+    (λ c. search needs)
     returns-3)

@@ -98,26 +98,26 @@ returns-2 c =
 prepare-requires : tie.Need-prepare-requires
 prepare-requires c κs = room (past (c .before .before .before .before .before .before))
 
-slice-relend-prefix-finished-estimate : tie.Need-slice-relend-prefix-finished-estimate
-slice-relend-prefix-finished-estimate c = inside (work (lent-from c)) C1
+slice-relend-prefix-estimate-picture : tie.Need-slice-relend-prefix-estimate-picture
+slice-relend-prefix-estimate-picture c = inside (work (lent-from c)) C1
 
-slice-aggregate-finished-estimate : tie.Need-slice-aggregate-finished-estimate
-slice-aggregate-finished-estimate c = sym (length-take-le _ _ (inside (work (lent-from (c .before))) C1))
+slice-aggregate-estimate-picture : tie.Need-slice-aggregate-estimate-picture
+slice-aggregate-estimate-picture c = sym (length-take-le _ _ (inside (work (lent-from (c .before))) C1))
 
-slice-relend-prefix-finished-estimate-2 : tie.Need-slice-relend-prefix-finished-estimate-2
-slice-relend-prefix-finished-estimate-2 c = inside (work (lent-from (c .before))) C2
+slice-relend-prefix-estimate-picture-2 : tie.Need-slice-relend-prefix-estimate-picture-2
+slice-relend-prefix-estimate-picture-2 c = inside (work (lent-from (c .before))) C2
 
-slice-aggregate-finished-estimate-2 : tie.Need-slice-aggregate-finished-estimate-2
-slice-aggregate-finished-estimate-2 c = sym (length-take-le _ _ (inside (work (lent-from (c .before .before))) C2))
+slice-aggregate-estimate-picture-2 : tie.Need-slice-aggregate-estimate-picture-2
+slice-aggregate-estimate-picture-2 c = sym (length-take-le _ _ (inside (work (lent-from (c .before .before))) C2))
 
-slice-relend-prefix-finished-estimate-3 : tie.Need-slice-relend-prefix-finished-estimate-3
-slice-relend-prefix-finished-estimate-3 c = inside (work (lent-from (c .before .before))) C3
+slice-relend-prefix-estimate-picture-3 : tie.Need-slice-relend-prefix-estimate-picture-3
+slice-relend-prefix-estimate-picture-3 c = inside (work (lent-from (c .before .before))) C3
 
-slice-aggregate-finished-estimate-3 : tie.Need-slice-aggregate-finished-estimate-3
-slice-aggregate-finished-estimate-3 c = sym (length-take-le _ _ (inside (work (lent-from (c .before .before .before))) C3))
+slice-aggregate-estimate-picture-3 : tie.Need-slice-aggregate-estimate-picture-3
+slice-aggregate-estimate-picture-3 c = sym (length-take-le _ _ (inside (work (lent-from (c .before .before .before))) C3))
 
-finished-estimate-requires : tie.Need-finished-estimate-requires
-finished-estimate-requires c κs =
+estimate-picture-requires : tie.Need-estimate-picture-requires
+estimate-picture-requires c κs =
     let w = work (lent-from (c .before .before .before .before)) in
     (ready w, w .past .settings .choices-fit)
 
@@ -129,18 +129,6 @@ found-requires c κs =
     let y = c .before .before .before .before .before .before .before .before .before .before .before .before in
     counted-ready (work (lent-from (y .before .before .before .before .before)) .past)
 
-same-length : tie.Need-same-length
-same-length c = search needs
-
-same-length-2 : tie.Need-same-length-2
-same-length-2 c = search needs
-
-same-length-3 : tie.Need-same-length-3
-same-length-3 c = search needs
-
-same-length-4 : tie.Need-same-length-4
-same-length-4 c = search needs
-
 returns-3 : tie.Need-returns-3
 unfolding estimateCall
 returns-3 c =
@@ -148,9 +136,9 @@ returns-3 c =
     let y = z .before .before .before .before .before .before .before .before .before in
     let x = lent-from (y .before .before .before .before .before) in
     let e = tested x .before .before in
-    let f = y .finished-estimate .ensures in
-    let k = y .finished-estimate .kept .1 .1 in
-    let l = y .finished-estimate .last .1 .1 in
+    let f = y .estimate-picture .ensures in
+    let k = y .estimate-picture .kept .1 .1 .1 in
+    let l = y .estimate-picture .last .1 .1 .1 in
     success (c .found .ensures)
     (decision (e .before) .succeeds (e .if1 .left) (work x .picture) _ _ (answered (work x) _ _ (f .estimate))
     (left (work x) (triple (l .0) (l .1 .0) (l .1 .1 .0)) _ _ (each-plane _ (k .0) (k .1 .0) (k .1 .1 .0)) (f .counters) (z .clear-planes .ensures)))
@@ -165,17 +153,14 @@ estimate-spec =
     is-picture-requires
     returns-2
     prepare-requires
-    slice-relend-prefix-finished-estimate
-    slice-aggregate-finished-estimate
-    slice-relend-prefix-finished-estimate-2
-    slice-aggregate-finished-estimate-2
-    slice-relend-prefix-finished-estimate-3
-    slice-aggregate-finished-estimate-3
-    finished-estimate-requires
+    slice-relend-prefix-estimate-picture
+    slice-aggregate-estimate-picture
+    slice-relend-prefix-estimate-picture-2
+    slice-aggregate-estimate-picture-2
+    slice-relend-prefix-estimate-picture-3
+    slice-aggregate-estimate-picture-3
+    estimate-picture-requires
     clear-planes-requires
     found-requires
-    same-length
-    same-length-2
-    same-length-3
-    same-length-4
+    (λ c. search needs) (λ c. search needs) (λ c. search needs) (λ c. search needs)
     returns-3)

@@ -150,21 +150,6 @@ found-requires c κs =
     let y = c .before .before .before .before .before .before .before .before .before .before .before .before .before .before in
     counted-ready (work (lent-from (y .before .before .before .before .before)) .past)
 
-same-length : tie.Need-same-length
-same-length c = search needs
-
-same-length-2 : tie.Need-same-length-2
-same-length-2 c = search needs
-
-same-length-3 : tie.Need-same-length-3
-same-length-3 c = search needs
-
-same-length-4 : tie.Need-same-length-4
-same-length-4 c = search needs
-
-same-length-5 : tie.Need-same-length-5
-same-length-5 c = search needs
-
 returns-3 : tie.Need-returns-3
 unfolding searchCall
 returns-3 c =
@@ -202,9 +187,5 @@ search-spec =
     search-picture-requires
     clear-planes-requires
     found-requires
-    same-length
-    same-length-2
-    same-length-3
-    same-length-4
-    same-length-5
+    (λ c. search needs) (λ c. search needs) (λ c. search needs) (λ c. search needs) (λ c. search needs)
     returns-3)

@@ -45,15 +45,6 @@ is-picture-requires c κs =
     let a = start (e .before) in
     valid (a .args .settings) (now (a .args .choices)) (planes a) (past e) .allowed
 
-same-length : tie.Need-same-length
-same-length c = search needs
-
-same-length-2 : tie.Need-same-length-2
-same-length-2 c = search needs
-
-same-length-3 : tie.Need-same-length-3
-same-length-3 c = search needs
-
 returns-2 : tie.Need-returns-2
 unfolding forward
 returns-2 c =
@@ -74,15 +65,6 @@ run-steps-requires c κs =
     let a = start (e .before) in
     forward-ready (a .args .settings) (now (a .args .choices)) (planes a) (past e) _ (n .step-count .ensures) (picture (n .before))
 
-same-length-4 : tie.Need-same-length-4
-same-length-4 c = search needs
-
-same-length-5 : tie.Need-same-length-5
-same-length-5 c = search needs
-
-same-length-6 : tie.Need-same-length-6
-same-length-6 c = search needs
-
 returns-3 : tie.Need-returns-3
 unfolding forward
 returns-3 c =
@@ -101,13 +83,9 @@ forward-spec =
     refusal-requires
     returns
     is-picture-requires
-    same-length
-    same-length-2
-    same-length-3
+    (λ c. search needs) (λ c. search needs) (λ c. search needs)
     returns-2
     step-count-requires
     run-steps-requires
-    same-length-4
-    same-length-5
-    same-length-6
+    (λ c. search needs) (λ c. search needs) (λ c. search needs)
     returns-3)

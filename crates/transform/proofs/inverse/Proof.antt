@@ -51,15 +51,6 @@ in-finished-ranges-requires c κs =
     let a = start (e .before) in
     valid (a .args .settings) (now (a .args .choices)) (planes a) (past e) .allowed
 
-same-length : tie.Need-same-length
-same-length c = search needs
-
-same-length-2 : tie.Need-same-length-2
-same-length-2 c = search needs
-
-same-length-3 : tie.Need-same-length-3
-same-length-3 c = search needs
-
 returns-2 : tie.Need-returns-2
 returns-2 c =
     let i = c .before in
@@ -86,15 +77,6 @@ is-picture-requires c κs =
     let a = start (e .before) in
     valid (a .args .settings) (now (a .args .choices)) (planes a) (past e) .allowed
 
-same-length-4 : tie.Need-same-length-4
-same-length-4 c = search needs
-
-same-length-5 : tie.Need-same-length-5
-same-length-5 c = search needs
-
-same-length-6 : tie.Need-same-length-6
-same-length-6 c = search needs
-
 returns-3 : tie.Need-returns-3
 unfolding inverse
 returns-3 c =
@@ -114,15 +96,6 @@ run-steps-requires c κs =
     let e = tested u in
     let a = start (e .before) in
     again-ready (a .args .settings) (now (a .args .choices)) (planes a) (past e) _ (n .step-count .ensures) (inside (n .before)) _ (u .undo-steps .ensures)
-
-same-length-7 : tie.Need-same-length-7
-same-length-7 c = search needs
-
-same-length-8 : tie.Need-same-length-8
-same-length-8 c = search needs
-
-same-length-9 : tie.Need-same-length-9
-same-length-9 c = search needs
 
 returns-4 : tie.Need-returns-4
 unfolding inverse
@@ -147,19 +120,13 @@ inverse-spec =
     refusal-requires
     returns
     in-finished-ranges-requires
-    same-length
-    same-length-2
-    same-length-3
+    (λ c. search needs) (λ c. search needs) (λ c. search needs)
     returns-2
     step-count-requires
     undo-steps-requires
     is-picture-requires
-    same-length-4
-    same-length-5
-    same-length-6
+    (λ c. search needs) (λ c. search needs) (λ c. search needs)
     returns-3
     run-steps-requires
-    same-length-7
-    same-length-8
-    same-length-9
+    (λ c. search needs) (λ c. search needs) (λ c. search needs)
     returns-4)

@@ -4,7 +4,7 @@ use native.Mathlib.Omega.{arith}
 use denote.Ref.{now}
 use Rattle.stage.specs.Planes.{Planes, triple}
 use Rattle.lifting.proofs.Readiness.{picture-first}
-use Rattle.trials.proofs.Rounds.{zero-same, trial-first}
+use Rattle.trials.proofs.Rounds.{zero-same, trial-first, all-steps}
 use Rattle.trials.proofs.estimate_picture.Statement.{statement}
 use Rattle.trials.proofs.estimate_picture.Tie as tie
 
@@ -42,15 +42,6 @@ trial-requires c κs =
       base = b .base-estimate .ensures .answer;
     }
 
-same-length : tie.Need-same-length
-same-length c = search needs
-
-same-length-2 : tie.Need-same-length-2
-same-length-2 c = search needs
-
-same-length-3 : tie.Need-same-length-3
-same-length-3 c = search needs
-
 same-length-4 : tie.Need-same-length-4
 same-length-4 c = search needs
 
@@ -61,7 +52,7 @@ returns c =
     let f = t .trial .ensures in
     record {
       estimate = f .estimate ∙ trial-first (s .args .settings) (planes s) (now (s .args .choices));
-      planes = f .planes;
+      planes = f .planes ∙ all-steps (s .args .settings) (s .args .undone) (planes s) (now (s .args .choices));
       counters = zero-same (s .pre .0 .counters) (f .counters) (same-length-4 c);
     }
 
@@ -72,8 +63,6 @@ estimate-picture-spec =
     table-requires
     base-estimate-requires
     trial-requires
-    same-length
-    same-length-2
-    same-length-3
+    (λ c. search needs) (λ c. search needs) (λ c. search needs)
     same-length-4
     returns)

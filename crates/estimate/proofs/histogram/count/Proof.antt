@@ -60,9 +60,6 @@ loop-again c =
       counts = occurrences-more (l .inv .counts) refl (inside (c .before .before));
     }
 
-same-length : tie.Need-same-length Inv-loop μ-loop
-same-length c = search needs
-
 returns : tie.Need-returns Inv-loop μ-loop
 returns c =
     let l = c .before .loop in
@@ -86,5 +83,5 @@ count-spec =
     add-j
     loop-less
     loop-again
-    same-length
+    (λ c. search needs)
     returns)

@@ -30,9 +30,6 @@ mul-t16 c = search needs
 slice-set-from-c : tie.Need-slice-set-from-c
 slice-set-from-c c = search needs
 
-same-length : tie.Need-same-length
-same-length c = search needs
-
 returns : tie.Need-returns
 returns c =
     let s = c .before .before .before in
@@ -49,5 +46,5 @@ lift-sample-spec =
     apply-requires
     mul-t16
     slice-set-from-c
-    same-length
+    (λ c. search needs)
     returns)

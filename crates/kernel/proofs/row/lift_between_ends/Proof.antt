@@ -29,9 +29,6 @@ lift-interior-requires c κs =
     let k = both (c .before) in
     rw (k .above, k .below) at (c .before .before .pre)
 
-same-length : tie.Need-same-length Inv-loop μ-loop
-same-length c = search needs
-
 returns : tie.Need-returns Inv-loop μ-loop
 returns c =
     let k = both (c .before .before .before) in
@@ -69,7 +66,7 @@ lift-between-ends-spec =
     μ-loop
     add-if1
     lift-interior-requires
-    same-length
+    (λ c. search needs)
     returns
     loop-holds
     lift-sample-requires

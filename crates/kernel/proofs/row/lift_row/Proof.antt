@@ -63,9 +63,6 @@ lift-sample-requires-3 c κs =
     let t = c .before in
     columns-ready (row (t .before .before)) (only-column (t .if2 .taken)) (omega arith) (omega arith) (progress-none (omega arith))
 
-same-length : tie.Need-same-length
-same-length c = search needs
-
 returns : tie.Need-returns
 returns c =
     let e = c .before in
@@ -77,9 +74,6 @@ returns c =
     let u = columns-done r (first-column l) (omega arith) (omega arith) (progress-none (omega arith)) (f .lift-sample .ensures) in
     let v = columns-done r (inner-columns l) (omega arith) (omega arith) u (b .lift-between-ends .ensures) in
     progress-all (columns-done r (last-column l) (omega arith) (omega arith) v (e .lift-sample2 .ensures)) (omega arith)
-
-same-length-2 : tie.Need-same-length-2
-same-length-2 c = search needs
 
 returns-2 : tie.Need-returns-2
 returns-2 c =
@@ -109,8 +103,8 @@ lift-row-spec =
     lift-between-ends-requires
     lift-sample-requires-2
     lift-sample-requires-3
-    same-length
+    (λ c. search needs)
     returns
-    same-length-2
+    (λ c. search needs)
     returns-2
     returns-3)

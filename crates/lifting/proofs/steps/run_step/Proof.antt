@@ -71,15 +71,6 @@ lift-plane-requires c κs =
       planes = a .pre .planes;
     }
 
-same-length : tie.Need-same-length
-same-length c = search needs
-
-same-length-2 : tie.Need-same-length-2
-same-length-2 c = search needs
-
-same-length-3 : tie.Need-same-length-3
-same-length-3 c = search needs
-
 returns : tie.Need-returns
 returns c =
     let q = c .before in
@@ -89,15 +80,6 @@ returns c =
     let s = a .args in
     ap (λ (x : List ℤ). triple (now (s .c1)) x (now (s .c3))) (changed-rows (s .settings .width) (s .settings .height) (a .pre .planes .size C2) (q .lift-quarter .ensures))
     ∙ quarter-step (s .settings) (now (s .choices)) (planes a) (s .settings .transform) (s .k) _ _ (third (g .before)) (f .filter-at .ensures) (g .filter-at2 .ensures) (s .back)
-
-same-length-4 : tie.Need-same-length-4
-same-length-4 c = search needs
-
-same-length-5 : tie.Need-same-length-5
-same-length-5 c = search needs
-
-same-length-6 : tie.Need-same-length-6
-same-length-6 c = search needs
 
 returns-2 : tie.Need-returns-2
 returns-2 c =
@@ -120,11 +102,7 @@ run-step-spec =
     filter-at-requires-2
     lift-quarter-requires
     lift-plane-requires
-    same-length
-    same-length-2
-    same-length-3
+    (λ c. search needs) (λ c. search needs) (λ c. search needs)
     returns
-    same-length-4
-    same-length-5
-    same-length-6
+    (λ c. search needs) (λ c. search needs) (λ c. search needs)
     returns-2)

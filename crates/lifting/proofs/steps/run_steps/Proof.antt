@@ -1,17 +1,13 @@
 use borrow.Author.Needs.{needs}
-use mathlib.Core.Path.{_≡_, sym, ap, _∙_}
-use mathlib.Core.List.{List}
-use Prim.Native.Nat.{ℕ, _-_, _≤_}
+use mathlib.Core.Path.{_≡_, sym}
+use Prim.Native.Nat.{_-_, _≤_}
 use native.Mathlib.Omega.{arith}
-use denote.Ref.{now}
 use Rattle.integers.specs.Slices.{slice}
-use Rattle.integers.proofs.Slices.{slice-none}
 use Rattle.stage.specs.declared.Plane.the-variants.{C1, C2, C3}
-use Rattle.stage.specs.Planes.{Planes, triple}
-use Rattle.stage.specs.Steps.{Step, Setup, steps, run}
+use Rattle.stage.specs.Planes.{triple}
+use Rattle.stage.specs.Steps.{steps, run}
 use Rattle.stage.specs.Transform.{setup}
-use Rattle.stage.proofs.StepLists.{run-same}
-use Rattle.lifting.proofs.Turns.{run-ready, run-turn}
+use Rattle.lifting.proofs.Turns.{run-none, run-long, run-ready, run-turn}
 use Rattle.lifting.proofs.steps.run_steps.Statement.{statement}
 use Rattle.lifting.proofs.steps.run_steps.Tie as tie
 
@@ -22,19 +18,10 @@ Inv-loop c1₀ c2₀ c3₀ settings choices from to k₀ c1 c2 c3 k =
 abbrev μ-loop : tie.MeasureT-loop
 μ-loop c1₀ c2₀ c3₀ settings choices from to k₀ c1 c2 c3 k = to - k
 
-abbrev planes : tie.Start Inv-loop μ-loop → Planes
-planes a = triple (now (a .args .c1)) (now (a .args .c2)) (now (a .args .c3))
-
-abbrev σ : tie.Start Inv-loop μ-loop → Setup
-σ a = setup (a .args .settings) (now (a .args .choices))
-
-abbrev list : tie.Start Inv-loop μ-loop → List Step
-list a = steps (a .args .settings .transform)
-
 loop-holds : tie.Need-loop-holds Inv-loop μ-loop
 loop-holds c =
     let a = c .before in
-    (omega arith, a .pre .fit .order, sym (ap (λ (l : List Step). run (σ a) l (planes a)) (slice-none (list a) (a .args .from))))
+    (omega arith, a .pre .fit .order, run-none (a .pre))
 
 run-step-requires : tie.Need-run-step-requires Inv-loop μ-loop
 run-step-requires c κs =
@@ -59,20 +46,20 @@ loop-again c =
     )
 
 same-length : tie.Need-same-length Inv-loop μ-loop
-same-length c = let l = c .before in let a = l .before .before in run-same (σ a) (slice (list a) (a .args .from) (l .loop .k)) (planes a) _ (l .loop .inv .2) C1
+same-length c = let l = c .before in run-long (l .before .before .pre) (l .loop .k) _ (l .loop .inv .2) C1
 
 same-length-2 : tie.Need-same-length-2 Inv-loop μ-loop
-same-length-2 c = let l = c .before in let a = l .before .before in run-same (σ a) (slice (list a) (a .args .from) (l .loop .k)) (planes a) _ (l .loop .inv .2) C2
+same-length-2 c = let l = c .before in run-long (l .before .before .pre) (l .loop .k) _ (l .loop .inv .2) C2
 
 same-length-3 : tie.Need-same-length-3 Inv-loop μ-loop
-same-length-3 c = let l = c .before in let a = l .before .before in run-same (σ a) (slice (list a) (a .args .from) (l .loop .k)) (planes a) _ (l .loop .inv .2) C3
+same-length-3 c = let l = c .before in run-long (l .before .before .pre) (l .loop .k) _ (l .loop .inv .2) C3
 
 returns : tie.Need-returns Inv-loop μ-loop
 returns c =
     let l = c .before in
     let a = l .before .before in
     let e : l .loop .k ≡ a .args .to = omega (arith, l .loop .inv .1, c .loop-test .left) in
-    l .loop .inv .2 ∙ ap (λ (k : ℕ). run (σ a) (slice (list a) (a .args .from) k) (planes a)) e
+    rw (sym e) (l .loop .inv .2)
 
 pub run-steps-spec : {M : Type 1} → statement M
 run-steps-spec =

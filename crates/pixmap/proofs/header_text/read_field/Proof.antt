@@ -16,8 +16,8 @@ byte-requires c κs = search needs
 is-white-requires : tie.Need-is-white-requires
 is-white-requires c κs = search needs
 
-cast-t9 : tie.Need-cast-t9
-cast-t9 c = search needs
+cast-t10 : tie.Need-cast-t10
+cast-t10 c = search needs
 
 returns : tie.Need-returns
 returns c =
@@ -34,5 +34,5 @@ read-field-spec =
     read-number-requires
     byte-requires
     is-white-requires
-    cast-t9
+    cast-t10
     returns)

@@ -55,9 +55,6 @@ put-field-requires-2 c κs = let b = name (filters (c .before .before .before)) 
 put-byte-requires : tie.Need-put-byte-requires
 put-byte-requires c κs = let b = name (filters (estimate (c .before .before .before))) in omega (arith, short (known b))
 
-same-length : tie.Need-same-length
-same-length c = search needs
-
 returns : tie.Need-returns
 unfolding line
 returns c =
@@ -80,5 +77,5 @@ put-line-spec =
     put-field-requires
     put-field-requires-2
     put-byte-requires
-    same-length
+    (λ c. search needs)
     returns)

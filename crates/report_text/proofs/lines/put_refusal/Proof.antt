@@ -31,9 +31,6 @@ put-field-requires c κs = omega (arith, short (start (c .before .before .before
 put-byte-requires : tie.Need-put-byte-requires
 put-byte-requires c κs = omega (arith, short (start (word (c .before .before .before))))
 
-same-length : tie.Need-same-length
-same-length c = search needs
-
 returns : tie.Need-returns
 unfolding refusalLine
 returns c =
@@ -53,5 +50,5 @@ put-refusal-spec =
     put-bytes-requires
     put-field-requires
     put-byte-requires
-    same-length
+    (λ c. search needs)
     returns)

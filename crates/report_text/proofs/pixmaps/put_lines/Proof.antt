@@ -35,9 +35,6 @@ slice-aggregate-put-line-4 c = search needs
 put-line-requires-4 : tie.Need-put-line-requires-4
 put-line-requires-4 c κs = search needs
 
-same-length : tie.Need-same-length
-same-length c = search needs
-
 returns : tie.Need-returns
 returns c =
     let d = c .before .before in
@@ -64,5 +61,5 @@ put-lines-spec =
     put-line-requires-3
     slice-aggregate-put-line-4
     put-line-requires-4
-    same-length
+    (λ c. search needs)
     returns)

@@ -71,9 +71,6 @@ first-of-requires-3 c κs = search needs
 put-refusal-requires : tie.Need-put-refusal-requires
 put-refusal-requires c κs = start (c .before .before) .pre
 
-same-length : tie.Need-same-length
-same-length c = search needs
-
 returns : tie.Need-returns
 returns c =
     let p = c .before .before in
@@ -82,9 +79,6 @@ returns c =
 
 put-lines-requires : tie.Need-put-lines-requires
 put-lines-requires c κs = start (c .before .before .before .before .before .before) .pre
-
-same-length-2 : tie.Need-same-length-2
-same-length-2 c = search needs
 
 returns-2 : tie.Need-returns-2
 returns-2 c =
@@ -109,8 +103,8 @@ put-picture-spec =
     first-of-requires-2
     first-of-requires-3
     put-refusal-requires
-    same-length
+    (λ c. search needs)
     returns
     put-lines-requires
-    same-length-2
+    (λ c. search needs)
     returns-2)

@@ -56,9 +56,6 @@ put-planes-requires c κs =
       room = p .room;
     }
 
-same-length : tie.Need-same-length
-same-length c = search needs
-
 returns : tie.Need-returns
 returns c = c .before .before .before .before .before .put-planes .ensures
 
@@ -77,5 +74,5 @@ put-pixmap-spec =
     array-borrow-prefix-c3
     slice-aggregate-put-planes-3
     put-planes-requires
-    same-length
+    (λ c. search needs)
     returns)

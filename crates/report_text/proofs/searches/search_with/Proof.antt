@@ -25,9 +25,6 @@ search-requires c κs = search needs
 outcome-requires : tie.Need-outcome-requires
 outcome-requires c κs = search needs
 
-same-length : tie.Need-same-length
-same-length c = search needs
-
 returns : tie.Need-returns
 unfolding lent
 returns c =
@@ -46,5 +43,5 @@ search-with-spec =
     slice-aggregate-search-4
     search-requires
     outcome-requires
-    same-length
+    (λ c. search needs)
     returns)

@@ -35,9 +35,6 @@ slice-aggregate-fill-and-show-3 c = simp length-take (omega arith)
 fill-and-show-requires : tie.Need-fill-and-show-requires
 fill-and-show-requires c κs = search needs
 
-same-length : tie.Need-same-length
-same-length c = search needs
-
 returns : tie.Need-returns
 returns c = search needs
 
@@ -55,5 +52,5 @@ lend-spec =
     array-borrow-prefix-c3
     slice-aggregate-fill-and-show-3
     fill-and-show-requires
-    same-length
+    (λ c. search needs)
     returns)

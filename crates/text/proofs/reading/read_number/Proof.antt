@@ -1,40 +1,38 @@
 -- `Read` goes from digit to digit, and ends where no digit follows.
 use borrow.Author.Needs.{needs}
-use mathlib.Core.Path.{refl, sym, ap, _∙_}
 use Prim.Native.Nat.{_-_}
 use native.Mathlib.Omega.{arith}
 use lib.ListN.{length}
-use Rattle.integers.proofs.Booleans.{held, failed}
-use Rattle.stage.specs.Decimal.{isDigit}
-use Rattle.text.proofs.Parts.{first-at}
-use Rattle.text.proofs.Numbers.{Read, digit-here, none-past, number-read}
+use borrow.Author.Tests.{ltb-true}
+use Rattle.integers.proofs.Booleans.{both-true, held, failed}
+use Rattle.text.proofs.Numbers.{Read, read-none, digit-here, read-ends, read-past}
 use Rattle.text.proofs.reading.read_number.Statement.{statement}
 use Rattle.text.proofs.reading.read_number.Tie as tie
 
 abbrev Inv-loop : tie.InvT-loop
-Inv-loop text at limit n₀ digits₀ i₀ n digits i = Read text at limit n digits i
+Inv-loop text at most limit n₀ digits₀ i₀ n digits i = Read text at most limit n digits i
 
 abbrev μ-loop : tie.MeasureT-loop
-μ-loop text at limit n₀ digits₀ i₀ n digits i = length text - i
+μ-loop text at most limit n₀ digits₀ i₀ n digits i = length text - i
 
 loop-holds : tie.Need-loop-holds Inv-loop μ-loop
-loop-holds c = record { kept = omega arith; value = refl; count = omega arith; place = omega arith }
+loop-holds c = let a = c .before .args in read-none (a .text .now) (a .at) (a .most) (a .limit)
 
 shared-slice-read-b : tie.Need-shared-slice-read-b Inv-loop μ-loop
 shared-slice-read-b c = search needs
 
-is-digit-requires : tie.Need-is-digit-requires Inv-loop μ-loop
-is-digit-requires c κs = search needs
+is-next-requires : tie.Need-is-next-requires Inv-loop μ-loop
+is-next-requires c κs = search needs
 
 returns : tie.Need-returns Inv-loop μ-loop
 returns c =
     let l = c .before .before .before .before in
     let s = l .before .before .args in
-    let t = ap isDigit (sym (first-at (s .text .now) (l .loop .i))) ∙ failed (c .before .is-digit .ensures) (c .if1 .taken) in
-    number-read (s .text .now) (s .at) (s .limit) (l .loop .n) (l .loop .digits) (l .loop .i) (l .loop .inv) t
+    read-ends (s .text .now) (s .at) (s .most) (s .limit) (l .loop .n) (l .loop .digits) (l .loop .i) (l .loop .inv) (failed (c .before .is-next .ensures) (c .if1 .taken))
+    (c .before .before .before .loop-test .taken)
 
 with-digit-requires : tie.Need-with-digit-requires Inv-loop μ-loop
-with-digit-requires c κs = record { kept = c .before .before .before .before .loop .inv .kept; limited = search needs; digit = held (c .before .is-digit .ensures) (c .if1 .left) }
+with-digit-requires c κs = record { kept = c .before .before .before .before .loop .inv .kept; limited = search needs; digit = both-true _ _ (held (c .before .is-next .ensures) (c .if1 .left)) .0 }
 
 add-digits : tie.Need-add-digits Inv-loop μ-loop
 add-digits c = search needs
@@ -49,15 +47,15 @@ loop-again : tie.Need-loop-again Inv-loop μ-loop
 loop-again c =
     let l = c .before .before .before .before .before in
     let s = l .before .before .args in
-    let t = held (c .before .before .is-digit .ensures) (c .before .if1 .left) in
-    rw (c .with-digit .ensures) (digit-here (s .text .now) (s .at) (s .limit) (l .loop .n) (l .loop .digits) (l .loop .i) (l .loop .inv) (c .before .before .before .before .loop-test .taken) t)
+    let t = both-true _ _ (held (c .before .before .is-next .ensures) (c .before .if1 .left)) in
+    rw (c .with-digit .ensures)
+    (digit-here (s .text .now) (s .at) (s .most) (s .limit) (l .loop .n) (l .loop .digits) (l .loop .i) (l .loop .inv) (c .before .before .before .before .loop-test .taken) (ltb-true _ _ (t .1)) (t .0))
 
 returns-2 : tie.Need-returns-2 Inv-loop μ-loop
 returns-2 c =
     let l = c .before in
     let s = l .before .before .args in
-    let t = none-past (s .text .now) (l .loop .i) (c .loop-test .left) in
-    number-read (s .text .now) (s .at) (s .limit) (l .loop .n) (l .loop .digits) (l .loop .i) (l .loop .inv) t
+    read-past (s .text .now) (s .at) (s .most) (s .limit) (l .loop .n) (l .loop .digits) (l .loop .i) (l .loop .inv) (c .loop-test .left)
 
 pub read-number-spec : {M : Type 1} → statement M
 read-number-spec =
@@ -67,7 +65,7 @@ read-number-spec =
     μ-loop
     loop-holds
     shared-slice-read-b
-    is-digit-requires
+    is-next-requires
     returns
     with-digit-requires
     add-digits

@@ -25,53 +25,17 @@ sub-power-of-two-2 c = search needs
 power-of-two-requires-2 : tie.Need-power-of-two-requires-2
 power-of-two-requires-2 c κs = search needs
 
-mul-t : tie.Need-mul-t
-mul-t c = search needs
+rct-row-requires : tie.Need-rct-row-requires
+rct-row-requires c κs = search needs
 
-sub-range-row : tie.Need-sub-range-row
-sub-range-row c = search needs
+ycocg-r-row-requires : tie.Need-ycocg-r-row-requires
+ycocg-r-row-requires c κs = search needs
 
 range-row-requires : tie.Need-range-row-requires
 range-row-requires c κs = search needs
 
-sub-range-row-2 : tie.Need-sub-range-row-2
-sub-range-row-2 c = search needs
-
-sub-range-row-3 : tie.Need-sub-range-row-3
-sub-range-row-3 c = search needs
-
-mul-range-row : tie.Need-mul-range-row
-mul-range-row c = search needs
-
-sub-range-row-4 : tie.Need-sub-range-row-4
-sub-range-row-4 c = search needs
-
-mul-range-row-2 : tie.Need-mul-range-row-2
-mul-range-row-2 c = search needs
-
-sub-range-row-5 : tie.Need-sub-range-row-5
-sub-range-row-5 c = search needs
-
-range-row-requires-2 : tie.Need-range-row-requires-2
-range-row-requires-2 c κs = search needs
-
-range-row-requires-3 : tie.Need-range-row-requires-3
-range-row-requires-3 c κs = search needs
-
-sub-range-row-6 : tie.Need-sub-range-row-6
-sub-range-row-6 c = search needs
-
-sub-range-row-7 : tie.Need-sub-range-row-7
-sub-range-row-7 c = search needs
-
-sub-range-row-8 : tie.Need-sub-range-row-8
-sub-range-row-8 c = search needs
-
-sub-range-row-9 : tie.Need-sub-range-row-9
-sub-range-row-9 c = search needs
-
-range-row-requires-4 : tie.Need-range-row-requires-4
-range-row-requires-4 c κs = search needs
+ldgeb-row-requires : tie.Need-ldgeb-row-requires
+ldgeb-row-requires c κs = search needs
 
 -- row k of the table, of the powers that were found
 row : (c : tie.After-power-of-two2) (k : ℕ) (r : Triple Range) → let s = c .before .before .before .before .before .args .settings in s .transform ≡ k
@@ -85,15 +49,15 @@ row c k r =
 
 returns : tie.Need-returns
 unfolding rangeTable
-returns c = row (c .before .before) 0 _ (c .before .match .keys1) (c .range-row .ensures)
+returns c = row (c .before .before) 0 _ (c .before .match .keys1) (c .rct-row .ensures)
 
 returns-2 : tie.Need-returns-2
 unfolding rangeTable
-returns-2 c = row (c .before .before) 1 _ (c .before .match .keys2) (c .range-row2 .ensures)
+returns-2 c = row (c .before .before) 1 _ (c .before .match .keys2) (c .ycocg-r-row .ensures)
 
 returns-3 : tie.Need-returns-3
 unfolding rangeTable
-returns-3 c = row (c .before .before) 2 _ (c .before .match .keys3) (c .range-row3 .ensures)
+returns-3 c = row (c .before .before) 2 _ (c .before .match .keys3) (c .range-row .ensures)
 
 returns-4 : tie.Need-returns-4
 unfolding rangeTable
@@ -101,7 +65,7 @@ returns-4 c =
     let a = c .before .before .before .before .before .before .before in
     let r = c .before .match .rest in
     let last : a .args .settings .transform ≡ 3 = omega (arith, a .pre, r .0 .0 .1, r .0 .1, r .1) in
-    row (c .before .before) 3 _ last (c .range-row4 .ensures)
+    row (c .before .before) 3 _ last (c .ldgeb-row .ensures)
 
 pub finished-ranges-spec : {M : Type 1} → statement M
 finished-ranges-spec =
@@ -112,22 +76,10 @@ finished-ranges-spec =
     power-of-two-requires
     sub-power-of-two-2
     power-of-two-requires-2
-    mul-t
-    sub-range-row
+    rct-row-requires
+    ycocg-r-row-requires
     range-row-requires
-    sub-range-row-2
-    sub-range-row-3
-    mul-range-row
-    sub-range-row-4
-    mul-range-row-2
-    sub-range-row-5
-    range-row-requires-2
-    range-row-requires-3
-    sub-range-row-6
-    sub-range-row-7
-    sub-range-row-8
-    sub-range-row-9
-    range-row-requires-4
+    ldgeb-row-requires
     returns
     returns-2
     returns-3

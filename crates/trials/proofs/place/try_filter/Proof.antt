@@ -15,9 +15,6 @@ planes a = triple (now (a .args .c1)) (now (a .args .c2)) (now (a .args .c3))
 slice-write-choices : tie.Need-slice-write-choices
 slice-write-choices c = c .before .before .pre .place .place
 
-same-length : tie.Need-same-length
-same-length c = search needs
-
 returns : tie.Need-returns
 returns c =
     let s = c .before .before .before .before in
@@ -43,21 +40,6 @@ trial-requires c κs =
       base = p .place .base;
     }
 
-same-length-2 : tie.Need-same-length-2
-same-length-2 c = search needs
-
-same-length-3 : tie.Need-same-length-3
-same-length-3 c = search needs
-
-same-length-4 : tie.Need-same-length-4
-same-length-4 c = search needs
-
-same-length-5 : tie.Need-same-length-5
-same-length-5 c = search needs
-
-same-length-6 : tie.Need-same-length-6
-same-length-6 c = search needs
-
 returns-2 : tie.Need-returns-2
 returns-2 c = record { choices = refl; found = c .before .before .before .before .before .trial .ensures }
 
@@ -66,12 +48,8 @@ try-filter-spec =
     tie.close
     (tie.spec
     slice-write-choices
-    same-length
+    (λ c. search needs)
     returns
     trial-requires
-    same-length-2
-    same-length-3
-    same-length-4
-    same-length-5
-    same-length-6
+    (λ c. search needs) (λ c. search needs) (λ c. search needs) (λ c. search needs) (λ c. search needs)
     returns-2)

@@ -190,12 +190,6 @@ same-length-2 c = ap (λ (p : Planes). length (p .c2)) (restored (c .before .bef
 same-length-3 : tie.Need-same-length-3 Inv-loop μ-loop
 same-length-3 c = ap (λ (p : Planes). length (p .c3)) (restored (c .before .before .before))
 
-same-length-4 : tie.Need-same-length-4 Inv-loop μ-loop
-same-length-4 c = search needs
-
-same-length-5 : tie.Need-same-length-5 Inv-loop μ-loop
-same-length-5 c = search needs
-
 pub round-spec : {M : Type 1} → statement M
 round-spec =
     tie.close
@@ -213,6 +207,5 @@ round-spec =
     same-length
     same-length-2
     same-length-3
-    same-length-4
-    same-length-5
+    (λ c. search needs) (λ c. search needs)
     returns)

@@ -48,9 +48,6 @@ add-result-2 c = record {
   fits = omega (arith, first c .chosen-estimate .ensures .bound, second c .chosen-estimate2 .ensures .bound, c .before .before .chosen-estimate3 .ensures .bound);
 }
 
-same-length : tie.Need-same-length
-same-length c = search needs
-
 returns : tie.Need-returns
 unfolding partEstimate
 returns c =
@@ -77,5 +74,5 @@ part-estimate-spec =
     chosen-estimate-requires-3
     add-result
     add-result-2
-    same-length
+    (λ c. search needs)
     returns)
