@@ -1,5 +1,6 @@
 -- `three_fit` is the test of each of the three planes.
 use borrow.Author.Needs.{needs}
+use mathlib.Core.Path.{refl}
 use Rattle.integers.proofs.three_fit.Statement.{statement}
 use Rattle.integers.proofs.three_fit.Tie as tie
 
@@ -13,7 +14,7 @@ all-fit-requires-3 : tie.Need-all-fit-requires-3
 all-fit-requires-3 c κs = search needs
 
 returns : tie.Need-returns
-returns c = rw (c .before .before .all-fit .ensures, c .before .all-fit2 .ensures, c .all-fit3 .ensures)
+returns c = rw (c .before .before .all-fit .ensures, c .before .all-fit2 .ensures, c .all-fit3 .ensures) refl
 
 pub three-fit-spec : {M : Type 1} → statement M
 three-fit-spec =

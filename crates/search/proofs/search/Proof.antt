@@ -50,10 +50,13 @@ decision r =
     let i = r .before .before in
     let k = length (now (a .args .choices)) in
     let n = i .before .scratch-refusal .ensures ∙ ap (λ (n : ℕ). refusal (tests a (eqb k n))) (i .before .before .places .ensures) in
-    let m = r .before .select .ensures ∙ ap (λ (t : Bool). cond t 0 10) (i .is-between .ensures) in
+    let b : i .is-between .result ≡ between 1 4 (a .args .rounds) = i .is-between .ensures in
+    let m = r .before .select .ensures ∙ ap (λ (t : Bool). cond t 0 10) b in
+    let f = i .before .scratch-refusal .result in
+    let e : r .select2 .result ≡ cond (eqb f 0) (r .before .select .result) f = r .select2 .ensures in
     decides (searchTests (a .args .settings) (planes a) (a .args .rounds) (memory a)) _ 11 _ _ _
     (tt, (tt, (tt, (tt, (tt, (tt, (tt, (tt, tt)))))))) _
-    (r .select2 .ensures ∙ ap₂ (λ (x y : ℕ). cond (eqb x 0) y x) n m
+    (e ∙ ap₂ (λ (x y : ℕ). cond (eqb x 0) y x) n m
     ∙ refusal-then (tests a (fit a)) (last a) (tt, (tt, (tt, (tt, (tt, (tt, tt)))))))
 
 past : (e : tie.Else1) → let a = start (e .before) in Passed (a .args .settings) (fit a) (planes a) (trials a) (now (a .args .counters))

@@ -1,6 +1,6 @@
 use borrow.Author.Needs.{needs}
-use mathlib.Core.Path.{sym, ap, ap₂, _∙_}
-use mathlib.Core.Bool.{Bool, _&&_}
+use mathlib.Core.Path.{_≡_, sym, ap, ap₂, _∙_}
+use mathlib.Core.Bool.{Bool, cond, _&&_}
 use mathlib.Core.List.{List, [], _∷_}
 use Prim.Native.Nat.{ℕ}
 use Rattle.stage.specs.declared.Plane.the-variants.{C1}
@@ -46,7 +46,8 @@ returns-2 c =
     let e = k .before .before in
     let s = e .before .before in
     let a = s .args in
-    c .select .ensures
+    let f : c .select .result ≡ cond (k .before .planes-fit .result && k .counters-fit .result) 0 9 = c .select .ensures in
+    f
     ∙ ap₂ (λ (x y : Bool). refusal ((x && y else 9) ∷ []))
     (k .before .planes-fit .ensures ∙ ap (λ (n : ℕ). allAtLeast n (triple (a .m1) (a .m2) (a .m3))) (valid e .size C1)) (k .counters-fit .ensures)
     ∙ sym (refusal-past (first s) ((fits s else 9) ∷ []) (past e))
