@@ -15,7 +15,7 @@ use Rattle.stage.specs.Ranges.{widest}
 use Rattle.stage.specs.Transform.{choicesFit, setup}
 use Rattle.stage.specs.Logarithm.{Logarithms}
 use Rattle.stage.specs.Estimate.{planeEstimate, pictureEstimate}
-use Rattle.stage.specs.Search.{winner, round, rounds, choicesEstimate}
+use Rattle.stage.specs.Search.{winner, round, choicesEstimate}
 use Rattle.estimate.specs.Counting.{Countable, Counters}
 use Rattle.lifting.specs.Passes.{stepOf, changes}
 use Rattle.lifting.specs.Steps.{AtStep}

@@ -101,7 +101,7 @@ pub fn base_estimate(
     part_estimate(c1, c2, c3, settings, set, counters, table)
 }
 
-// The step that steps up to `end` are undone to: none is, if they are not undone.
+// The step back to which the steps before `end` are undone: `end` where none is to be.
 fn undone_to(undone: bool, step: usize, end: usize) -> usize
     ensures { λ r. ⌜ r ≡ cond undone step end ⌝ }
 {

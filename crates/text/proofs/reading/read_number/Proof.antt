@@ -1,7 +1,6 @@
 -- `Read` goes from digit to digit, and ends where no digit follows.
 use borrow.Author.Needs.{needs}
 use Prim.Native.Nat.{_-_}
-use native.Mathlib.Omega.{arith}
 use lib.ListN.{length}
 use borrow.Author.Tests.{ltb-true}
 use Rattle.integers.proofs.Booleans.{both-true, held, failed}
