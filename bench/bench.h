@@ -6,6 +6,7 @@
 
 #define INLINE static inline __attribute__((always_inline))
 #define FILTERS 13
+#define NULL_FILTER 12
 #define TRANSFORMS 4
 #define MOST_PLACES 4
 #define MOST_COUNTED 4096

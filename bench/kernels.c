@@ -19,8 +19,9 @@ int are_within(const int32_t *plane, size_t count, int32_t low, int32_t high)
     return bits >> 31 == 0;
 }
 
-/* A quarter step makes a row in two: 4c + f or 4c - f, then with the second filtered value the floor of a quarter. */
-enum row_change { ROW_PLUS, ROW_MINUS, ROW_PLUS_HALF, ROW_MINUS_HALF, ROW_NEGATE,
+/* A quarter step makes a row in two: 4c + f or 4c - f, then with the second filtered value the floor of a quarter.
+   With one null place it adds or subtracts the floor of a quarter of the other's filtered value. */
+enum row_change { ROW_PLUS, ROW_MINUS, ROW_PLUS_HALF, ROW_MINUS_HALF, ROW_PLUS_QUARTER, ROW_MINUS_QUARTER, ROW_NEGATE,
                   ROW_FOUR_PLUS, ROW_FOUR_MINUS, ROW_QUARTER_PLUS, ROW_QUARTER_MINUS, ROW_CHANGES };
 
 INLINE int32_t changed(enum row_change change, int32_t c, int32_t f)
@@ -30,6 +31,8 @@ INLINE int32_t changed(enum row_change change, int32_t c, int32_t f)
     case ROW_MINUS: return c - f;
     case ROW_PLUS_HALF: return c + (f >> 1);
     case ROW_MINUS_HALF: return c - (f >> 1);
+    case ROW_PLUS_QUARTER: return c + (f >> 2);
+    case ROW_MINUS_QUARTER: return c - (f >> 2);
     case ROW_NEGATE: return f - c;
     case ROW_FOUR_PLUS: return 4 * c + f;
     case ROW_FOUR_MINUS: return 4 * c - f;
@@ -91,21 +94,25 @@ typedef void row_function(ROW_PARAMETERS);
     }
 #define ROWS(o) \
     SAMPLE(o, 0, m[x]) ROW(o, 1, 1) ROW(o, 2, 2) ROW(o, 3, 4) ROW(o, 4, 8) ROW(o, 5, 16) ROW(o, 6, 32) \
-    ROW(o, 7, 64) ROW(o, 8, 128) ROW(o, 9, 256) ROW(o, 10, 512) ROW(o, 11, 1024) SAMPLE(o, 12, 0)
+    ROW(o, 7, 64) ROW(o, 8, 128) ROW(o, 9, 256) ROW(o, 10, 512) ROW(o, 11, 1024)
 ROWS(ROW_PLUS)
 ROWS(ROW_MINUS)
 ROWS(ROW_PLUS_HALF)
 ROWS(ROW_MINUS_HALF)
+ROWS(ROW_PLUS_QUARTER)
+ROWS(ROW_MINUS_QUARTER)
 ROWS(ROW_NEGATE)
 ROWS(ROW_FOUR_PLUS)
 ROWS(ROW_FOUR_MINUS)
 ROWS(ROW_QUARTER_PLUS)
 ROWS(ROW_QUARTER_MINUS)
 
-#define LISTED(o) [o] = {o##_0, o##_1, o##_2, o##_3, o##_4, o##_5, o##_6, o##_7, o##_8, o##_9, o##_10, o##_11, o##_12}
-static row_function *const row_functions[ROW_CHANGES][FILTERS] = {
-    LISTED(ROW_PLUS), LISTED(ROW_MINUS), LISTED(ROW_PLUS_HALF), LISTED(ROW_MINUS_HALF), LISTED(ROW_NEGATE),
-    LISTED(ROW_FOUR_PLUS), LISTED(ROW_FOUR_MINUS), LISTED(ROW_QUARTER_PLUS), LISTED(ROW_QUARTER_MINUS)
+/* Of filters 0 to 11: no row is made with the null filter. */
+#define LISTED(o) [o] = {o##_0, o##_1, o##_2, o##_3, o##_4, o##_5, o##_6, o##_7, o##_8, o##_9, o##_10, o##_11}
+static row_function *const row_functions[ROW_CHANGES][NULL_FILTER] = {
+    LISTED(ROW_PLUS), LISTED(ROW_MINUS), LISTED(ROW_PLUS_HALF), LISTED(ROW_MINUS_HALF), LISTED(ROW_PLUS_QUARTER),
+    LISTED(ROW_MINUS_QUARTER), LISTED(ROW_NEGATE), LISTED(ROW_FOUR_PLUS), LISTED(ROW_FOUR_MINUS),
+    LISTED(ROW_QUARTER_PLUS), LISTED(ROW_QUARTER_MINUS)
 };
 
 INLINE void change_row(enum row_change change, uint32_t filter, int32_t *c, const int32_t *a, size_t width,
@@ -115,18 +122,23 @@ INLINE void change_row(enum row_change change, uint32_t filter, int32_t *c, cons
     row_functions[change][filter](c + y * width, m, y > 0 ? m - width : 0, y + 1 < height ? m + width : 0, width);
 }
 
+static void lift_rows(enum row_change rows, uint32_t filter, int32_t *c, const int32_t *a, size_t width, size_t height)
+{
+    if (filter == 0)   /* no window: the plane is one long row */
+        row_functions[rows][0](c, a, 0, 0, width * height);
+    else
+        for (size_t y = 0; y < height; y++)
+            change_row(rows, filter, c, a, width, height, y);
+}
+
 void lift(enum change change, uint32_t filter, int32_t *c, const int32_t *a, size_t width, size_t height)
 {
     static const enum row_change row_changes[] = {
         [PLUS] = ROW_PLUS, [MINUS] = ROW_MINUS, [PLUS_HALF] = ROW_PLUS_HALF, [MINUS_HALF] = ROW_MINUS_HALF,
         [NEGATE] = ROW_NEGATE
     };
-    enum row_change rows = row_changes[change];
-    if (filter == 0 || filter == 12)   /* no window: the plane is one long row */
-        row_functions[rows][filter](c, a, 0, 0, width * height);
-    else
-        for (size_t y = 0; y < height; y++)
-            change_row(rows, filter, c, a, width, height, y);
+    if (filter != NULL_FILTER)   /* a step whose places are all null is skipped */
+        lift_rows(row_changes[change], filter, c, a, width, height);
 }
 
 INLINE void plain_quarter(int32_t sign, int32_t *restrict c, const int32_t *a, const int32_t *b, size_t count)
@@ -139,8 +151,12 @@ void lift_quarter(enum change change, const uint8_t filters[2], int32_t *c, cons
                   size_t width, size_t height)
 {
     int plus = change == PLUS_QUARTER;
-    if (filters[0] == 12 && filters[1] == 12)
+    if (filters[0] == NULL_FILTER || filters[1] == NULL_FILTER) {
+        int other = filters[0] == NULL_FILTER;
+        if (filters[other] != NULL_FILTER)
+            lift_rows(plus ? ROW_PLUS_QUARTER : ROW_MINUS_QUARTER, filters[other], c, other ? b : a, width, height);
         return;
+    }
     if (filters[0] == 0 && filters[1] == 0) {
         if (plus) plain_quarter(1, c, a, b, width * height);
         else plain_quarter(-1, c, a, b, width * height);

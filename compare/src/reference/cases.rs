@@ -15,7 +15,20 @@ fn one_pixel() {
     assert_eq!(pixel(1, &[0; 4]), [-50, 165, 117]);
     assert_eq!(pixel(2, &[0; 2]), [10, -190, 140]);
     assert_eq!(pixel(3, &[0; 3]), [105, -190, -45]);
-    assert_eq!(pixel(2, &[12; 2]), [10, -200, -60]);
+}
+
+/// Steps whose places are all null leave their planes unchanged; RCT's third step has two places.
+#[test]
+fn null_steps() {
+    for transform in 0..TRANSFORMS {
+        assert_eq!(pixel(transform, &vec![12; places(transform)]), PIXEL);
+    }
+    assert_eq!(pixel(2, &[12, 0]), [10, -190, 60]);
+    assert_eq!(pixel(2, &[0, 12]), [10, 200, 140]);
+    assert_eq!(pixel(3, &[12, 0, 0]), [-90, 200, 150]);
+    assert_eq!(pixel(0, &[0, 0, 12, 0]), [-190, 165, -140]);
+    assert_eq!(pixel(0, &[0, 0, 0, 12]), [-190, 152, -140]);
+    assert_eq!(pixel(0, &[0, 0, 12, 12]), [-190, 200, -140]);
 }
 
 #[test]

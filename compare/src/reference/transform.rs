@@ -10,17 +10,33 @@ pub fn places(transform: u32) -> usize {
     [4, 4, 2, 3][transform as usize]
 }
 
-/// `plane` changed sample by sample with the sample of `other` at the same index.
-fn change(plane: &mut Plane, other: &Plane, result: impl Fn(i64, i64) -> i64) {
-    for (sample, term) in plane.iter_mut().zip(other) {
-        *sample = result(*sample, *term);
-    }
+/// The filter that gives 0.
+const NULL: u8 = 12;
+
+/// One filter for each place, from place 1 on, and the size of the planes.
+struct Lifting<'a> {
+    width: usize,
+    height: usize,
+    filters: &'a [u8],
 }
 
-/// The sum of two planes.
-fn sum(mut a: Plane, b: &Plane) -> Plane {
-    change(&mut a, b, |x, y| x + y);
-    a
+impl Lifting<'_> {
+    fn filter(&self, place: usize) -> u8 {
+        self.filters[place - 1]
+    }
+
+    /// A step: each sample of `plane` becomes the result for it and the sum of the filtered values of `terms`, which are
+    /// planes with their places. "A step whose places are all null leaves its plane unchanged, both ways."
+    fn step(&self, plane: &mut Plane, terms: &[(&Plane, usize)], result: impl Fn(i64, i64) -> i64) {
+        if terms.iter().all(|&(_, place)| self.filter(place) == NULL) {
+            return;
+        }
+        let filtered = |&(term, place): &(&Plane, usize)| filtered(term, self.width, self.height, self.filter(place));
+        let terms: Vec<Plane> = terms.iter().map(filtered).collect();
+        for (i, sample) in plane.iter_mut().enumerate() {
+            *sample = result(*sample, terms.iter().map(|term| term[i]).sum());
+        }
+    }
 }
 
 fn half(n: i64) -> i64 {
@@ -34,27 +50,27 @@ fn quarter(n: i64) -> i64 {
 /// Every step of the transform in order; `filters` has one filter for each place.
 pub fn run(transform: u32, width: usize, height: usize, filters: &[u8], planes: Planes) -> Planes {
     let [mut c1, mut c2, mut c3] = planes;
-    let at_place = |plane: &Plane, place: usize| filtered(plane, width, height, filters[place - 1]);
+    let lifting = Lifting { width, height, filters };
     match transform {
         0 => {
-            change(&mut c1, &at_place(&c2, 1), |c, d| c - d);
-            change(&mut c3, &at_place(&c2, 2), |c, d| c - d);
-            change(&mut c2, &sum(at_place(&c1, 3), &at_place(&c3, 4)), |c, d| c + quarter(d));
+            lifting.step(&mut c1, &[(&c2, 1)], |c, d| c - d);
+            lifting.step(&mut c3, &[(&c2, 2)], |c, d| c - d);
+            lifting.step(&mut c2, &[(&c1, 3), (&c3, 4)], |c, d| c + quarter(d));
         }
         1 => {
-            change(&mut c1, &at_place(&c3, 1), |c, d| c - d);
-            change(&mut c3, &at_place(&c1, 2), |c, d| c + half(d));
-            change(&mut c2, &at_place(&c3, 3), |c, d| c - d);
-            change(&mut c3, &at_place(&c2, 4), |c, d| c + half(d));
+            lifting.step(&mut c1, &[(&c3, 1)], |c, d| c - d);
+            lifting.step(&mut c3, &[(&c1, 2)], |c, d| c + half(d));
+            lifting.step(&mut c2, &[(&c3, 3)], |c, d| c - d);
+            lifting.step(&mut c3, &[(&c2, 4)], |c, d| c + half(d));
         }
         2 => {
-            change(&mut c3, &at_place(&c2, 1), |c, d| -c + d);
-            change(&mut c2, &at_place(&c1, 2), |c, d| -c + d);
+            lifting.step(&mut c3, &[(&c2, 1)], |c, d| -c + d);
+            lifting.step(&mut c2, &[(&c1, 2)], |c, d| -c + d);
         }
         3 => {
-            change(&mut c2, &at_place(&c1, 1), |c, d| -c + d);
-            change(&mut c1, &at_place(&c2, 2), |c, d| c - half(d));
-            change(&mut c3, &at_place(&c1, 3), |c, d| c - d);
+            lifting.step(&mut c2, &[(&c1, 1)], |c, d| -c + d);
+            lifting.step(&mut c1, &[(&c2, 2)], |c, d| c - half(d));
+            lifting.step(&mut c3, &[(&c1, 3)], |c, d| c - d);
         }
         _ => panic!("no transform {transform}"),
     }
@@ -64,27 +80,27 @@ pub fn run(transform: u32, width: usize, height: usize, filters: &[u8], planes: 
 /// The steps undone, the last one first, with the same filters.
 pub fn undo(transform: u32, width: usize, height: usize, filters: &[u8], planes: Planes) -> Planes {
     let [mut c1, mut c2, mut c3] = planes;
-    let at_place = |plane: &Plane, place: usize| filtered(plane, width, height, filters[place - 1]);
+    let lifting = Lifting { width, height, filters };
     match transform {
         0 => {
-            change(&mut c2, &sum(at_place(&c1, 3), &at_place(&c3, 4)), |c, d| c - quarter(d));
-            change(&mut c3, &at_place(&c2, 2), |c, d| c + d);
-            change(&mut c1, &at_place(&c2, 1), |c, d| c + d);
+            lifting.step(&mut c2, &[(&c1, 3), (&c3, 4)], |c, d| c - quarter(d));
+            lifting.step(&mut c3, &[(&c2, 2)], |c, d| c + d);
+            lifting.step(&mut c1, &[(&c2, 1)], |c, d| c + d);
         }
         1 => {
-            change(&mut c3, &at_place(&c2, 4), |c, d| c - half(d));
-            change(&mut c2, &at_place(&c3, 3), |c, d| c + d);
-            change(&mut c3, &at_place(&c1, 2), |c, d| c - half(d));
-            change(&mut c1, &at_place(&c3, 1), |c, d| c + d);
+            lifting.step(&mut c3, &[(&c2, 4)], |c, d| c - half(d));
+            lifting.step(&mut c2, &[(&c3, 3)], |c, d| c + d);
+            lifting.step(&mut c3, &[(&c1, 2)], |c, d| c - half(d));
+            lifting.step(&mut c1, &[(&c3, 1)], |c, d| c + d);
         }
         2 => {
-            change(&mut c2, &at_place(&c1, 2), |c, d| d - c);
-            change(&mut c3, &at_place(&c2, 1), |c, d| d - c);
+            lifting.step(&mut c2, &[(&c1, 2)], |c, d| d - c);
+            lifting.step(&mut c3, &[(&c2, 1)], |c, d| d - c);
         }
         3 => {
-            change(&mut c3, &at_place(&c1, 3), |c, d| c + d);
-            change(&mut c1, &at_place(&c2, 2), |c, d| c + half(d));
-            change(&mut c2, &at_place(&c1, 1), |c, d| d - c);
+            lifting.step(&mut c3, &[(&c1, 3)], |c, d| c + d);
+            lifting.step(&mut c1, &[(&c2, 2)], |c, d| c + half(d));
+            lifting.step(&mut c2, &[(&c1, 1)], |c, d| d - c);
         }
         _ => panic!("no transform {transform}"),
     }

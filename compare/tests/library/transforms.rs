@@ -51,6 +51,37 @@ fn every_filter_at_every_place() {
     });
 }
 
+/// With every filter null a picture's planes stay as they are, forward and back.
+#[test]
+fn every_filter_null() {
+    each_round("every_filter_null", 500, |random, origin| {
+        let mut case = random::case(random, origin);
+        case.choices = vec![12; case.choices.len()];
+        assert_eq!(case.forward(), (0, case.planes.clone()), "{case}");
+        case.inverse_as(Ok(case.planes.clone()));
+    });
+}
+
+/// Null at every set of places, other filters at the other places.
+#[test]
+fn every_set_of_null_places() {
+    const SIZES: [(u32, u32); 4] = [(1, 1), (3, 1), (2, 5), (17, 6)];
+    each_round("every_set_of_null_places", 20, |random, origin| {
+        for transform in 0..TRANSFORMS {
+            for nulls in 0..1u32 << places(transform) {
+                for (width, height) in SIZES {
+                    let depth = 2 + random.below(15) as u32;
+                    let mut case = random::case_of(random, Settings { width, height, depth, transform }, origin);
+                    for (place, choice) in case.choices.iter_mut().enumerate() {
+                        *choice = if nulls >> place & 1 == 1 { 12 } else { random.below(12) as u8 };
+                    }
+                    there_and_back(&case);
+                }
+            }
+        }
+    });
+}
+
 /// Samples at the ends of their range, at every depth.
 #[test]
 fn extreme_samples() {

@@ -16,6 +16,10 @@ use Rattle.integers.proofs.Lists.{ext-at, length-mapIndexed, at-mapped}
 pub changed-none : (f : ℕ → ℤ → ℤ) {i j : ℕ} (l : List ℤ) → i ≡ j → Changed f i j l l
 changed-none f {i} {j} l e = record { long = refl; new = λ k p q. absurd (omega arith); low = λ k p. refl; high = λ k p. refl }
 
+-- a function that leaves numbers as they are: any part may be called changed
+pub changed-idle : (f : ℕ → ℤ → ℤ) (i j : ℕ) (l : List ℤ) → ((k : ℕ) (z : ℤ) → f k z ≡ z) → Changed f i j l l
+changed-idle f i j l e = record { long = refl; new = λ k p q. sym (e k (at l k)); low = λ k p. refl; high = λ k p. refl }
+
 -- one number more
 pub changed-more : {f : ℕ → ℤ → ℤ} {before after : List ℤ} {i j m : ℕ} (z : ℤ) → Changed f i j before after → i ≤ j → j < length before → z ≡ f j (at before j) → j + 1 ≡ m → Changed f i m before (set after j z)
 changed-more {f} {before} {after} {i} {j} {m} z u h b e g = record {

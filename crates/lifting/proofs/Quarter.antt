@@ -9,12 +9,14 @@ use lib.IntN.{ℤ, pos, _+ℤ_}
 use Rattle.integers.specs.Parts.{In}
 use Rattle.integers.specs.Lists.{at, AllIn, Changed}
 use Rattle.integers.proofs.FloorDivision.{floorDiv-low, floorDiv-high}
-use Rattle.integers.proofs.Linear.{flat, count, eq-lin, in-lin}
+use Rattle.integers.proofs.Linear.{flat, count, in-lin}
 use Rattle.integers.proofs.Lists.{all-wider}
 use Rattle.integers.proofs.Parts.{add-difference}
-use Rattle.integers.proofs.Changes.{changed-join, changed-as, changed-twice, changed-in}
+use Rattle.integers.proofs.Changes.{changed-idle, changed-join, changed-as, changed-twice, changed-in}
 use Rattle.stage.specs.Filter.{filtered}
+use Rattle.stage.specs.Steps.{add, subtract}
 use Rattle.stage.proofs.Means.{filtered-in}
+use Rattle.stage.proofs.NullSteps.{lift-nothing}
 use Rattle.kernel.specs.Pass.{applied}
 use Rattle.kernel.proofs.Quarters.{quarter-added, quarter-subtracted}
 use Rattle.lifting.specs.Passes.{quarterLifted, quarterAt}
@@ -41,18 +43,14 @@ quarter-in back x f g h i j =
     elim back as (λ (b : Bool). In 4194304 4194304 (quarterLifted b x f g)) [ true ↦ in-lin (simp flat (simp count (omega arith))) | false ↦ in-lin (simp flat (simp count (omega arith))) ]
 
 nothing-added : (back : Bool) (x : ℤ) → quarterLifted back x (pos 0) (pos 0) ≡ x
-nothing-added true x = eq-lin (simp flat (simp count (omega arith)))
-nothing-added false x = eq-lin (simp flat (simp count (omega arith)))
+nothing-added true x = lift-nothing subtract x tt
+nothing-added false x = lift-nothing add x tt
 
--- ---- two null filters: any part may be called changed
+-- ---- two null filters
 pub null-quarter : (w h f g i j : ℕ) (back : Bool) (a b c : List ℤ) → (f ≡ 12) × (g ≡ 12) → Changed (quarterAt w h back f g a b) i j c c
 unfolding filtered
-null-quarter w h f g i j back a b c e = record {
-  long = refl;
-  new = λ k _ _. sym (ap₂ (λ (m n : ℕ). quarterAt w h back m n a b k (at c k)) (e .0) (e .1) ∙ nothing-added back (at c k));
-  low = λ k _. refl;
-  high = λ k _. refl;
-}
+null-quarter w h f g i j back a b c e =
+    changed-idle _ i j c (λ k z. ap₂ (λ (m n : ℕ). quarterAt w h back m n a b k z) (e .0) (e .1) ∙ nothing-added back z)
 
 -- ---- a turn of the loop: plane c₀ is changed from index i to j, which gives c; then both passes run from j to m
 pub record Turn (w h f g : ℕ) (back : Bool) (a b c₀ c : List ℤ) (first second i j m : ℕ) : Type 0 where

@@ -8,17 +8,18 @@ use lib.Dec.{T, eqb, leb, leb→le, eqb→eq, lit≤}
 use lib.IntN.{ℤ}
 use lib.ListN.{length, getD}
 use Rattle.integers.specs.Lists.{AllIn, mapIndexed, Changed}
-use Rattle.integers.proofs.Booleans.{and-iff, true-holds}
-use Rattle.integers.proofs.Lists.{all-wider}
-use Rattle.integers.proofs.Changes.{changed-all, changed-as}
+use Rattle.integers.proofs.Booleans.{and-iff, true-holds, fails-false}
+use Rattle.integers.proofs.Lists.{all-wider, mapIndexed-same}
+use Rattle.integers.proofs.Changes.{changed-all, changed-as, changed-idle}
 use Rattle.stage.specs.declared.Settings.{Settings}
 use Rattle.stage.specs.declared.Plane.{Plane}
 use Rattle.stage.specs.declared.Plane.the-variants.{C1, C2, C3}
 use Rattle.stage.specs.Planes.{Planes, get, put, samePlane}
 use Rattle.stage.specs.Filter.{filtered}
-use Rattle.stage.specs.Steps.{steps, places, step}
+use Rattle.stage.specs.Steps.{reversed, steps, places, step}
 use Rattle.stage.specs.Transform.{HasSize, setup}
 use Rattle.stage.proofs.Triples.{get-put, get-other}
+use Rattle.stage.proofs.NullSteps.{lifted-unskipped}
 use Rattle.kernel.specs.Pass.{applied}
 use Rattle.kernel.specs.Lifting.{Liftable}
 use Rattle.lifting.specs.declared.passes.Pass.{Pass}
@@ -112,15 +113,20 @@ module _ {s : Settings} {k f from to : ℕ} {p : Planes} {back : Bool} {x : Pass
     changed = all-wider (r .planes .small c) (lit≤ tt) (lit≤ tt);
   }
 
-  pub pass-changed : {after : List ℤ} → Changed (λ i z. applied n z (filtered (s .width) (s .height) f a i)) (from * s .width) (to * s .width) (get p c) after
+  pub pass-changed : (f ≡ 12 → ⊥) → {after : List ℤ} → Changed (λ i z. applied n z (filtered (s .width) (s .height) f a i)) (from * s .width) (to * s .width) (get p c) after
       → RowsChanged (passed s back f X p) (X .changed) s from to p (put p c after)
-  pass-changed {after} u =
+  pass-changed l {after} u =
       subst (λ (d : Plane). RowsChanged (passed s back f X p) d s from to p (put p c after)) (sym changed-same) (record {
         rows =
             subst (λ (l : List ℤ). Changed (passed s back f X p) (from * s .width) (to * s .width) (get p c) l) (sym (get-put p c after))
-            (changed-as _ _ u refl refl (λ i z _ _. ap₂ (λ (m : ℕ) (l : List ℤ). applied m z (filtered (s .width) (s .height) f l i)) number-same read-same));
+            (changed-as _ _ u refl refl
+            (λ i z _ _. ap₂ (λ (m : ℕ) (l : List ℤ). applied m z (filtered (s .width) (s .height) f l i)) number-same read-same ∙ rw (fails-false (eqb f 12) (λ t. l (eqb→eq f 12 t)))));
         others = λ d h. get-other p d c after h;
       })
+
+-- a null filter: all rows are as they were
+pub pass-skipped : (s : Settings) (back : Bool) (f from to : ℕ) (x : Pass) (p : Planes) → f ≡ 12 → RowsChanged (passed s back f x p) (x .changed) s from to p p
+pass-skipped s back f from to x p e = record { rows = changed-idle _ _ _ _ (λ i z. rw e); others = λ d h. refl }
 
 -- ---- planes that differ in one plane
 others-same : (p q : Planes) (c : Plane) → ((d : Plane) → T (not (samePlane d c)) → get q d ≡ get p d) → q ≡ put p c (get q c)
@@ -180,9 +186,10 @@ module _ (s : Settings) (φ : List ℕ) (p : Planes) where
       ap₂ (λ (f g : ℕ). put p C2 (mapIndexed (quarterAt (s .width) (s .height) back f g (p .c1) (p .c3)) 0 (p .c2))) (m ∙ ap (λ (j : ℕ). getD φ j 0) (e .1)) n ∙ made back
       ∙ sym (ap₂ (λ (a b : ℕ). step (setup s φ) (reversedIf back (stepAt a b)) p) (e .0) (e .1))
     where
+      -- skipped or not: it does not negate
       made : (back : Bool) → put p C2 (mapIndexed (quarterAt (s .width) (s .height) back (getD φ 2 0) (getD φ 3 0) (p .c1) (p .c3)) 0 (p .c2)) ≡ step (setup s φ) (reversedIf back (stepAt 0 2)) p
-      made true = refl
-      made false = refl
+      made true = ap (put p C2) (mapIndexed-same _ _ (λ i z. sym (lifted-unskipped (setup s φ) (λ z. refl) p (reversed (stepAt 0 2)) i z tt)) 0 (p .c2))
+      made false = ap (put p C2) (mapIndexed-same _ _ (λ i z. sym (lifted-unskipped (setup s φ) (λ z. refl) p (stepAt 0 2) i z tt)) 0 (p .c2))
 
 pub both-equal : (m n i j : ℕ) → (eqb m i && eqb n j) ≡ true → (m ≡ i) × (n ≡ j)
 both-equal m n i j e = let h = and-iff (eqb m i) (eqb n j) .0 (true-holds e) in (eqb→eq m i (h .0), eqb→eq n j (h .1))

@@ -65,9 +65,10 @@ secondOther C1 = C3
 secondOther C2 = C3
 secondOther C3 = C2
 
--- what a pass makes of the sample z at index i of the plane that it changes, under a filter
+-- what a step of one place makes of the sample z at index i of the plane that its pass changes, under a filter; a null one skips it
 abbrev pub passed : Settings → Bool → ℕ → Pass → Planes → ℕ → ℤ → ℤ
-passed s back filter x p i z = applied (number back x) z (filtered (s .width) (s .height) filter (get p (x .read)) i)
+passed s back filter x p i z =
+    cond (eqb filter 12) z (applied (number back x) z (filtered (s .width) (s .height) filter (get p (x .read)) i))
 
 -- a quarter of two filtered values f and g added to a sample, or back subtracted from it
 abbrev pub quarterLifted : Bool → ℤ → ℤ → ℤ → ℤ

@@ -1,5 +1,5 @@
 // Lifting steps forward and back, in place. Each step is one pass over a plane, but for RCT's third, whose two filtered values take
-// two passes over each row.
+// two passes over each row. A step whose places are all null is skipped: it takes none.
 ghost use mathlib.Core.Path.{_≡_};
 ghost use mathlib.Core.Bool.{cond};
 ghost use Prim.Native.Nat.{_<_, _*_};
@@ -61,7 +61,8 @@ fn lift_by(
     }
 }
 
-// Rows from .. to − 1 of one plane, by the pass of a place under a filter.
+// Rows from .. to − 1 of one plane by a step of one place, or back: by the pass of the place under its filter. A null filter leaves
+// them as they are.
 fn lift_plane(
     c1: &mut [i32],
     c2: &mut [i32],
@@ -76,6 +77,9 @@ fn lift_plane(
     requires { ⌜ PassReady settings place filter from to (triple (now c1) (now c2) (now c3)) ⌝ }
     ensures { λ _. ⌜ RowsChanged (passed settings back filter (passAt (settings .transform) place) (triple (now (c1 .entry)) (now (c2 .entry)) (now (c3 .entry)))) (passAt (settings .transform) place .changed) settings from to (triple (now (c1 .entry)) (now (c2 .entry)) (now (c3 .entry))) (triple (now (c1 .exit)) (now (c2 .exit)) (now (c3 .exit))) ⌝ }
 {
+    if filter == 12 {
+        return;
+    }
     let x = pass_at(settings.transform, place);
     let n = pass_number(x, back);
     let w = settings.width as usize;

@@ -1,4 +1,4 @@
--- The cases and 01's equations hold of the definitions, by computation.
+-- The cases hold of the definitions, by computation.
 use mathlib.Core.Path.{refl}
 use lib.Ieee.{size}
 use Rattle.integers.specs.Lists.{allWithin}
@@ -11,10 +11,9 @@ use Rattle.stage.specs.Search.{winner, round, rounds, searched, choicesE
 use Rattle.stage.specs.Pixmap.{isWhite, endsStretch, staysInside, afterStretch, field, headerText, depthAmong, headerOf, rasterOf, everyThird, planesOf}
 use Rattle.stage.specs.Cases.{marked, CasesHold}
 use Rattle.stage.specs.FilterCases.{filterCases, FilterCasesHold}
-use Rattle.stage.specs.TransformCases.{planeCases, limitCases, orderCases, TransformCasesHold}
+use Rattle.stage.specs.TransformCases.{planeCases, nullCases, limitCases, orderCases, TransformCasesHold}
 use Rattle.stage.specs.SearchCases.{estimateCases, tieCases, scratchCases, EstimateCasesHold, TieCasesHold}
 use Rattle.stage.specs.PixmapCases.{textCases, fileCases, planesCases, PixmapCasesHold}
-use Rattle.stage.specs.Equations.{EquationsHold}
 
 pub cases-hold : CasesHold
 unfolding marked forward inverse transformed untransformed filtered mean allWithin med L size total logSum estimateOfCounts
@@ -25,8 +24,8 @@ unfolding filterCases filtered mean med prediction residual stride counted count
 filter-cases-hold = refl
 
 pub transform-cases-hold : TransformCasesHold
-unfolding planeCases limitCases orderCases forward inverse transformed untransformed filtered mean allWithin
-transform-cases-hold = (refl, refl, refl)
+unfolding planeCases nullCases limitCases orderCases forward inverse transformed untransformed filtered mean allWithin
+transform-cases-hold = (refl, refl, refl, refl)
 
 pub tie-cases-hold : TieCasesHold
 unfolding tieCases winner round rounds searched
@@ -39,12 +38,3 @@ estimate-cases-hold = (refl, refl)
 pub pixmap-cases-hold : PixmapCasesHold
 unfolding textCases fileCases planesCases isDigit decimal digitCount afterDigits digits numeral isWhite endsStretch staysInside afterStretch field headerText depthAmong headerOf rasterOf everyThird planesOf
 pixmap-cases-hold = (refl, refl, refl)
-
-pub equations-hold : EquationsHold
-unfolding transformed untransformed
-equations-hold = (
-  record { there = λ w h b φ p. refl; back = λ w h b φ q. refl },
-  record { there = λ w h b φ p. refl; back = λ w h b φ q. refl },
-  record { there = λ w h b φ p. refl; back = λ w h b φ q. refl },
-  record { there = λ w h b φ p. refl; back = λ w h b φ q. refl },
-)

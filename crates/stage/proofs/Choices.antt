@@ -21,9 +21,9 @@ filters-set (x ∷ φ) (suc k) f g h =
     let b = and-iff (leb x 12) (allFilters φ) .0 h in
     and-iff (leb x 12) (allFilters (set φ k f)) .1 (b .0, filters-set φ k f g (b .1))
 
-zero-filters : (n : ℕ) → T (allFilters (replicate n 0))
-zero-filters zero = tt
-zero-filters (suc n) = zero-filters n
+equal-filters : (n f : ℕ) → T (leb f 12) → T (allFilters (replicate n f))
+equal-filters zero f h = tt
+equal-filters (suc n) f h = and-iff (leb f 12) (allFilters (replicate n f)) .1 (h, equal-filters n f h)
 
 pub record Choices (s : Settings) (φ : List ℕ) : Type 0 where
   pub count : length φ ≡ places (steps (s .transform))
@@ -41,8 +41,8 @@ module _ (s : Settings) (φ : List ℕ) where
       let both = and-iff (countFits s (length φ)) (allFilters φ) .0 h in
       and-iff (countFits s (length (set φ k f))) (allFilters (set φ k f)) .1 (rw (length-set φ k f) (both .0), filters-set φ k f g (both .1))
 
--- filter 0 at every place
-pub choices-zero : (s : Settings) (n : ℕ) → n ≡ places (steps (s .transform)) → T (choicesFit s (replicate n 0))
-choices-zero s n e =
-    and-iff (countFits s (length (replicate {A = ℕ} n 0))) (allFilters (replicate n 0)) .1
-    (rw (length-replicate {A = ℕ} n 0, e) (eqb-refl (places (steps (s .transform)))), zero-filters n)
+-- one filter at every place
+pub choices-equal : (s : Settings) (n f : ℕ) → T (leb f 12) → n ≡ places (steps (s .transform)) → T (choicesFit s (replicate n f))
+choices-equal s n f h e =
+    and-iff (countFits s (length (replicate {A = ℕ} n f))) (allFilters (replicate n f)) .1
+    (rw (length-replicate {A = ℕ} n f, e) (eqb-refl (places (steps (s .transform)))), equal-filters n f h)

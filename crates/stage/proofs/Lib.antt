@@ -9,6 +9,9 @@ pub mod Answers
 pub mod Validity
 pub mod Choices
 pub mod Demand3
+pub mod Setups
+pub mod NullSteps
+pub mod Equations
 pub mod Logarithm
 pub mod Prediction
 pub mod Histogram

@@ -14,7 +14,7 @@ use Rattle.stage.specs.Steps.{steps, places}
 use Rattle.stage.specs.Transform.{choicesFit}
 use Rattle.stage.specs.Search.{winner, round, rounds, searched}
 use Rattle.stage.specs.Theorems.{Wins, WinnerWins, SearchedFit}
-use Rattle.stage.proofs.Choices.{choices, choices-set, choices-zero}
+use Rattle.stage.proofs.Choices.{choices, choices-set, choices-equal}
 
 module _ (e : List ℕ → ℕ) (φ : List ℕ) (k : ℕ) where
   -- the estimate with filter f at the place
@@ -79,4 +79,4 @@ pub searched-fit : SearchedFit
 unfolding searched
 searched-fit s e k =
     let n = places (steps (s .transform)) in
-    rounds-fit s e n k (replicate n 0) (choices-zero s n refl)
+    rounds-fit s e n k (replicate n 0) (choices-equal s n 0 tt refl)

@@ -1,21 +1,14 @@
--- The cases that 01 marks ◆, as one list, and the proposition that the definitions satisfy it.
+-- The cases that 01 marks ◆, as one list, and the proposition that the definitions satisfy it. 02 replaces the one of null filters.
 use mathlib.Core.List.{List, [], _∷_}
 use Prim.Native.Nat.{ℕ}
 use lib.IntN.{ℤ, pos}
 use Rattle.stage.specs.Settings.{settingsOf}
-use Rattle.stage.specs.Planes.{Planes, triple}
+use Rattle.stage.specs.Planes.{triple}
 use Rattle.stage.specs.Filter.{filtered}
-use Rattle.stage.specs.Transform.{forward, inverse}
+use Rattle.stage.specs.Transform.{forward}
 use Rattle.stage.specs.Logarithm.{L}
 use Rattle.stage.specs.Estimate.{med, estimateOfCounts}
-use Rattle.stage.specs.Case.{Value, Case, _gives_, Hold, call, sample, count, minus, pixel, accepted, refuses}
-
--- "Depth 8, one pixel 10, 200, 60": transform t with the filters φ
-abbrev there : ℕ → List ℕ → Value
-there t φ = call (forward (settingsOf 1 1 8 t) φ (pixel (pos 10) (pos 200) (pos 60)))
-
-abbrev back : ℕ → List ℕ → Planes → Value
-back t φ q = call (inverse (settingsOf 1 1 8 t) φ q)
+use Rattle.stage.specs.Case.{Value, Case, _gives_, Hold, call, sample, count, minus, pixel, there, back, accepted, refuses}
 
 -- "3 by 3 zeros with centre" z: the filter's value at an index
 abbrev centred : ℕ → ℤ → ℕ → Value
@@ -36,9 +29,11 @@ marked =
     -- "LDgEb 105, −190, −45"
     ∷ (there 3 (0 ∷ 0 ∷ 0 ∷ [])
     gives accepted (pixel (pos 105) (minus 190) (minus 45)))
-    -- "RDgDb, both null: 10, −200, −60"
+    -- 02: "The pixel 10, 200, 60 under RDgDb or LDgEb with all nulls gives 10, 200, 60"
     ∷ (there 2 (12 ∷ 12 ∷ [])
-    gives accepted (pixel (pos 10) (minus 200) (minus 60)))
+    gives accepted (pixel (pos 10) (pos 200) (pos 60)))
+    ∷ (there 3 (12 ∷ 12 ∷ 12 ∷ [])
+    gives accepted (pixel (pos 10) (pos 200) (pos 60)))
     -- "2 by 1, RDgDb, filter 1 twice, R 10 20, G 100 101, B 7 9: plane 2 is −85 −86, plane 3 is 94 92"
     ∷ (call (forward (settingsOf 2 1 8 2) (1 ∷ 1 ∷ []) (triple (pos 10 ∷ pos 20 ∷ []) (pos 100 ∷ pos 101 ∷ []) (pos 7 ∷ pos 9 ∷ [])))
     gives accepted (triple (pos 10 ∷ pos 20 ∷ []) (minus 85 ∷ minus 86 ∷ []) (pos 94 ∷ pos 92 ∷ [])))

@@ -1,8 +1,10 @@
 -- The four transforms and their inverses once more, as 01's equations one after the other, and the propositions that the lists of
--- steps say the same. d k a i is plane a's filtered value at index i, with the filter of place k.
+-- steps say the same. d k a i is plane a's filtered value at index i, with the filter of place k; null k says whether that is null.
 use mathlib.Core.Path.{_≡_}
+use mathlib.Core.Bool.{Bool, cond, _&&_}
 use mathlib.Core.List.{List}
 use Prim.Native.Nat.{ℕ}
+use lib.Dec.{eqb}
 use lib.IntN.{ℤ, negℤ, _+ℤ_, _-ℤ_}
 use lib.ListN.{getD}
 use Rattle.integers.specs.Parts.{floorDiv}
@@ -16,50 +18,57 @@ module _ (w h : ℕ) (φ : List ℕ) where
   abbrev d : ℕ → List ℤ → ℕ → ℤ
   d k a i = filtered w h (getD φ k 0) a i
 
+  abbrev null : ℕ → Bool
+  null k = eqb (getD φ k 0) 12
+
+  -- Plane a after a step that changes its samples by f; 02: "a step whose places are all null leaves its plane unchanged, both ways".
+  abbrev lifted : (allNull : Bool) (a : List ℤ) (f : ℕ → ℤ → ℤ) → List ℤ
+  lifted allNull a f = cond allNull a (mapIndexed f 0 a)
+
   abbrev pub rct : Planes → Planes
   rct p =
-      let u = mapIndexed (λ i x. x -ℤ d 0 (p .c2) i) 0 (p .c1) in
-      let v = mapIndexed (λ i x. x -ℤ d 1 (p .c2) i) 0 (p .c3) in
-      triple u (mapIndexed (λ i x. x +ℤ floorDiv (d 2 u i +ℤ d 3 v i) 4) 0 (p .c2)) v
+      let u = lifted (null 0) (p .c1) (λ i x. x -ℤ d 0 (p .c2) i) in
+      let v = lifted (null 1) (p .c3) (λ i x. x -ℤ d 1 (p .c2) i) in
+      triple u (lifted (null 2 && null 3) (p .c2) (λ i x. x +ℤ floorDiv (d 2 u i +ℤ d 3 v i) 4)) v
 
   abbrev pub rctBack : Planes → Planes
   rctBack q =
-      let g = mapIndexed (λ i x. x -ℤ floorDiv (d 2 (q .c1) i +ℤ d 3 (q .c3) i) 4) 0 (q .c2) in
-      triple (mapIndexed (λ i x. x +ℤ d 0 g i) 0 (q .c1)) g (mapIndexed (λ i x. x +ℤ d 1 g i) 0 (q .c3))
+      let g = lifted (null 2 && null 3) (q .c2) (λ i x. x -ℤ floorDiv (d 2 (q .c1) i +ℤ d 3 (q .c3) i) 4) in
+      triple (lifted (null 0) (q .c1) (λ i x. x +ℤ d 0 g i)) g (lifted (null 1) (q .c3) (λ i x. x +ℤ d 1 g i))
 
   abbrev pub ycocg : Planes → Planes
   ycocg p =
-      let o = mapIndexed (λ i x. x -ℤ d 0 (p .c3) i) 0 (p .c1) in
-      let s = mapIndexed (λ i x. x +ℤ floorDiv (d 1 o i) 2) 0 (p .c3) in
-      let g = mapIndexed (λ i x. x -ℤ d 2 s i) 0 (p .c2) in
-      triple o g (mapIndexed (λ i x. x +ℤ floorDiv (d 3 g i) 2) 0 s)
+      let o = lifted (null 0) (p .c1) (λ i x. x -ℤ d 0 (p .c3) i) in
+      let s = lifted (null 1) (p .c3) (λ i x. x +ℤ floorDiv (d 1 o i) 2) in
+      let g = lifted (null 2) (p .c2) (λ i x. x -ℤ d 2 s i) in
+      triple o g (lifted (null 3) s (λ i x. x +ℤ floorDiv (d 3 g i) 2))
 
   abbrev pub ycocgBack : Planes → Planes
   ycocgBack q =
-      let s = mapIndexed (λ i x. x -ℤ floorDiv (d 3 (q .c2) i) 2) 0 (q .c3) in
-      let g = mapIndexed (λ i x. x +ℤ d 2 s i) 0 (q .c2) in
-      let b = mapIndexed (λ i x. x -ℤ floorDiv (d 1 (q .c1) i) 2) 0 s in
-      triple (mapIndexed (λ i x. x +ℤ d 0 b i) 0 (q .c1)) g b
+      let s = lifted (null 3) (q .c3) (λ i x. x -ℤ floorDiv (d 3 (q .c2) i) 2) in
+      let g = lifted (null 2) (q .c2) (λ i x. x +ℤ d 2 s i) in
+      let b = lifted (null 1) s (λ i x. x -ℤ floorDiv (d 1 (q .c1) i) 2) in
+      triple (lifted (null 0) (q .c1) (λ i x. x +ℤ d 0 b i)) g b
 
   abbrev pub rdgdb : Planes → Planes
   rdgdb p =
-      triple (p .c1) (mapIndexed (λ i x. negℤ x +ℤ d 1 (p .c1) i) 0 (p .c2)) (mapIndexed (λ i x. negℤ x +ℤ d 0 (p .c2) i) 0 (p .c3))
+      triple (p .c1) (lifted (null 1) (p .c2) (λ i x. negℤ x +ℤ d 1 (p .c1) i)) (lifted (null 0) (p .c3) (λ i x. negℤ x +ℤ d 0 (p .c2) i))
 
   abbrev pub rdgdbBack : Planes → Planes
   rdgdbBack q =
-      let g = mapIndexed (λ i x. negℤ x +ℤ d 1 (q .c1) i) 0 (q .c2) in
-      triple (q .c1) g (mapIndexed (λ i x. negℤ x +ℤ d 0 g i) 0 (q .c3))
+      let g = lifted (null 1) (q .c2) (λ i x. negℤ x +ℤ d 1 (q .c1) i) in
+      triple (q .c1) g (lifted (null 0) (q .c3) (λ i x. negℤ x +ℤ d 0 g i))
 
   abbrev pub ldgeb : Planes → Planes
   ldgeb p =
-      let g = mapIndexed (λ i x. negℤ x +ℤ d 0 (p .c1) i) 0 (p .c2) in
-      let l = mapIndexed (λ i x. x -ℤ floorDiv (d 1 g i) 2) 0 (p .c1) in
-      triple l g (mapIndexed (λ i x. x -ℤ d 2 l i) 0 (p .c3))
+      let g = lifted (null 0) (p .c2) (λ i x. negℤ x +ℤ d 0 (p .c1) i) in
+      let l = lifted (null 1) (p .c1) (λ i x. x -ℤ floorDiv (d 1 g i) 2) in
+      triple l g (lifted (null 2) (p .c3) (λ i x. x -ℤ d 2 l i))
 
   abbrev pub ldgebBack : Planes → Planes
   ldgebBack q =
-      let r = mapIndexed (λ i x. x +ℤ floorDiv (d 1 (q .c2) i) 2) 0 (q .c1) in
-      triple r (mapIndexed (λ i x. negℤ x +ℤ d 0 r i) 0 (q .c2)) (mapIndexed (λ i x. x +ℤ d 2 (q .c1) i) 0 (q .c3))
+      let r = lifted (null 1) (q .c1) (λ i x. x +ℤ floorDiv (d 1 (q .c2) i) 2) in
+      triple r (lifted (null 0) (q .c2) (λ i x. negℤ x +ℤ d 0 r i)) (lifted (null 2) (q .c3) (λ i x. x +ℤ d 2 (q .c1) i))
 
 -- transform t, at any size w by h and depth b, is the equations f, and back it is g
 pub record Equations (t : ℕ) (f g : ℕ → ℕ → List ℕ → Planes → Planes) : Type 0 where

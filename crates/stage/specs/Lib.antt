@@ -19,5 +19,6 @@ pub mod SearchCases
 pub mod PixmapCases
 pub mod Equations
 pub mod Demand3
+pub mod NullSteps
 pub mod Theorems
 pub mod EstimateTheorems

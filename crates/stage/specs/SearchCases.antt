@@ -47,7 +47,7 @@ abbrev two : Planes
 two = triple (pos 0 ∷ pos 3 ∷ []) (pos 3 ∷ pos 1 ∷ []) (pos 1 ∷ pos 2 ∷ [])
 
 abbrev three : Planes
-three = triple (pos 1 ∷ pos 1 ∷ pos 1 ∷ []) (pos 1 ∷ pos 0 ∷ pos 2 ∷ []) (pos 1 ∷ pos 2 ∷ pos 2 ∷ [])
+three = triple (pos 1 ∷ pos 1 ∷ pos 1 ∷ []) (pos 1 ∷ pos 3 ∷ pos 1 ∷ []) (pos 3 ∷ pos 3 ∷ pos 3 ∷ [])
 
 unfoldable pub estimateCases : List Case
 estimateCases =
@@ -76,7 +76,7 @@ searchCases =
     -- filters 1, 2 and 12 tie at the second place: "else the lowest number wins"
     ∷ (search (searchCall (settingsOf 3 1 2 3) three 1 (lent (0 ∷ 0 ∷ 0 ∷ []) (scratch 3 3 3 19 7 9)))
     gives finds (0 ∷ 1 ∷ 0 ∷ []) 653 3 (scratch 3 3 3 19 0 0))
-    -- the second round changes the first place
+    -- the second round changes the first place; filter 0 would stay there if a null step negated its plane
     ∷ (search (searchCall (settingsOf 3 1 2 3) three 2 (lent (0 ∷ 0 ∷ 0 ∷ []) (scratch 3 3 3 19 7 9)))
     gives finds (12 ∷ 1 ∷ 0 ∷ []) 478 3 (scratch 3 3 3 19 0 0))
     ∷ []

@@ -71,15 +71,14 @@ abbrev pub places : List Step → ℕ
 places [] = 0
 places (s ∷ l) = termPlaces (s .term) + places l
 
--- What the steps run with. 01 has one filter a place, skips no step and keeps every result as it is (`setup`, Transform.antt). What
--- is free beyond that leaves room for filters that change down the picture, for steps that are skipped, and for results kept to the
--- depth's bits.
+-- What the steps run with. A run has one filter a place, skips null steps and keeps every result as it is (`setup`, Transform.antt).
+-- What is free beyond that leaves room for filters that change down the picture and for results kept to the depth's bits.
 pub record Setup : Type 0 where
   pub width : ℕ
   pub height : ℕ
   -- the filter of a place at a sample's index
   pub filter : (k i : ℕ) → ℕ
-  -- not 01's: whether a step whose places are all null is skipped
+  -- whether null steps are skipped (02, request 1: "a step whose places are all null leaves its plane unchanged, both ways")
   pub skips : Bool
   -- not 01's: how a step's result is kept
   pub keep : ℤ → ℤ

@@ -41,9 +41,10 @@ settingsTests s choices l =
     ∷ (allEqual (pixels s) l else 8)
     ∷ []
 
--- One filter for each place, no step skipped, results kept as they are.
+-- One filter for each place, results kept as they are, and "a step whose places are all null leaves its plane unchanged, both ways" (02,
+-- request 1).
 abbrev pub setup : Settings → List ℕ → Setup
-setup s φ = record { width = s .width; height = s .height; filter = λ k i. getD φ k 0; skips = false; keep = λ z. z }
+setup s φ = record { width = s .width; height = s .height; filter = λ k i. getD φ k 0; skips = true; keep = λ z. z }
 
 -- the planes that a picture goes to, and the planes with all steps undone
 unfoldable pub transformed : Settings → List ℕ → Planes → Planes

@@ -8,7 +8,7 @@ use Rattle.stage.specs.Settings.{settingsOf}
 use Rattle.stage.specs.Planes.{Planes, triple}
 use Rattle.stage.specs.Ranges.{rangeRow, finishedRanges, bounded, widest}
 use Rattle.stage.specs.Transform.{forward, inverse}
-use Rattle.stage.specs.Case.{Value, Case, _gives_, Hold, call, count, ranges, minus, pixel, accepted, refuses}
+use Rattle.stage.specs.Case.{Value, Case, _gives_, Hold, call, count, ranges, minus, pixel, there, back, accepted, refuses}
 
 -- one pixel at depth b through RDgDb with filters 0
 abbrev one : ℕ → Planes → Value
@@ -70,6 +70,32 @@ planeCases =
     ∷ (count (2 * widest (settingsOf 1 1 8 1) + 1) gives count 1785)
     ∷ []
 
+abbrev given : Value
+given = accepted (pixel (pos 10) (pos 200) (pos 60))
+
+-- 02: "a step whose places are all null leaves its plane unchanged, both ways"
+unfoldable pub nullCases : List Case
+nullCases =
+    (back 2 (12 ∷ 12 ∷ []) (pixel (pos 10) (pos 200) (pos 60)) gives given)
+    ∷ (back 3 (12 ∷ 12 ∷ 12 ∷ []) (pixel (pos 10) (pos 200) (pos 60)) gives given)
+    -- planes that 01 by itself would have given, and that no picture goes to any more
+    ∷ (back 2 (12 ∷ 12 ∷ []) (pixel (pos 10) (minus 200) (minus 60)) gives refuses 12 (pixel (pos 10) (minus 200) (minus 60)))
+    -- RDgDb with one null of its two places, each in a step of its own
+    ∷ (there 2 (12 ∷ 0 ∷ []) gives accepted (pixel (pos 10) (minus 190) (pos 60)))
+    ∷ (back 2 (12 ∷ 0 ∷ []) (pixel (pos 10) (minus 190) (pos 60)) gives given)
+    ∷ (there 2 (0 ∷ 12 ∷ []) gives accepted (pixel (pos 10) (pos 200) (pos 140)))
+    ∷ (back 2 (0 ∷ 12 ∷ []) (pixel (pos 10) (pos 200) (pos 140)) gives given)
+    -- LDgEb: plane 2, not negated, is halved into plane 1
+    ∷ (there 3 (12 ∷ 0 ∷ 0 ∷ []) gives accepted (pixel (minus 90) (pos 200) (pos 150)))
+    ∷ (back 3 (12 ∷ 0 ∷ 0 ∷ []) (pixel (minus 90) (pos 200) (pos 150)) gives given)
+    -- RCT's third step: not skipped with one null of two places, −140/4 and −190/4 rounded down; skipped with both
+    ∷ (there 0 (0 ∷ 0 ∷ 12 ∷ 0 ∷ []) gives accepted (pixel (minus 190) (pos 165) (minus 140)))
+    ∷ (back 0 (0 ∷ 0 ∷ 12 ∷ 0 ∷ []) (pixel (minus 190) (pos 165) (minus 140)) gives given)
+    ∷ (there 0 (0 ∷ 0 ∷ 0 ∷ 12 ∷ []) gives accepted (pixel (minus 190) (pos 152) (minus 140)))
+    ∷ (back 0 (0 ∷ 0 ∷ 0 ∷ 12 ∷ []) (pixel (minus 190) (pos 152) (minus 140)) gives given)
+    ∷ (there 0 (0 ∷ 0 ∷ 12 ∷ 12 ∷ []) gives accepted (pixel (minus 190) (pos 200) (minus 140)))
+    ∷ []
+
 unfoldable pub limitCases : List Case
 limitCases =
     -- "Width 8,192 passes, 8,193 gives 2": what passes is refused later, for its length
@@ -122,4 +148,4 @@ orderCases =
     ∷ []
 
 abbrev pub TransformCasesHold : Type 0
-TransformCasesHold = Hold planeCases × Hold limitCases × Hold orderCases
+TransformCasesHold = Hold planeCases × Hold nullCases × Hold limitCases × Hold orderCases

@@ -11,7 +11,8 @@ use Rattle.stage.specs.Planes.{Planes}
 use Rattle.stage.specs.Transform.{inverse}
 use Rattle.stage.specs.Demand3.{GoesTo, accepted, Demand3}
 use Rattle.stage.proofs.Demand3.{demand3, calls-inverse}
-use Rattle.transform.specs.Calls.{ForwardThenInverse, InverseThenForward, CallsDemand3, CallsMeetDemand3}
+use Rattle.stage.proofs.NullSteps.{nulls-leave-pictures}
+use Rattle.transform.specs.Calls.{ForwardThenInverse, InverseThenForward, CallsDemand3, CallsMeetDemand3, CallsLeaveNulls}
 
 done-is : (r : Answer) → replyOf r ≡ done tt → r ≡ Done
 done-is Done e = refl
@@ -57,3 +58,6 @@ module _ (s : Settings) (φ : List ℕ) (q : Planes) (d : Demand3 s φ q) (r : A
 
 pub calls-meet-demand3 : CallsMeetDemand3
 calls-meet-demand3 s φ a f q z r u e = meets s φ q (demand3 s φ (a, f) q z) r u e
+
+pub calls-leave-nulls : CallsLeaveNulls
+calls-leave-nulls s p a h r q = let n = nulls-leave-pictures s p a h in (λ f. accepted-is r q (f ∙ n .there), λ i. accepted-is r q (i ∙ n .back))

@@ -11,8 +11,9 @@ use Rattle.stage.specs.Answers.{outcomeOf}
 use Rattle.stage.specs.Settings.{Allowed}
 use Rattle.stage.specs.Planes.{Planes}
 use Rattle.stage.specs.Ranges.{finishedRanges, InRanges}
-use Rattle.stage.specs.Transform.{choicesFit, HasSize, forward, inverse}
+use Rattle.stage.specs.Transform.{choicesFit, HasSize, Picture, forward, inverse}
 use Rattle.stage.specs.Demand3.{GoesTo}
+use Rattle.stage.specs.NullSteps.{nulls}
 
 -- The promises: lent planes p, the call answers r and leaves q.
 abbrev pub ForwardGives : Settings → List ℕ → Planes → Answer → Planes → Type 0
@@ -48,3 +49,9 @@ abbrev pub CallsMeetDemand3 : Type 0
 CallsMeetDemand3 =
     (s : Settings) (φ : List ℕ) → Allowed s → T (choicesFit s φ) → (q : Planes) → HasSize s q
     → (r : Answer) (u : Planes) → InverseGives s φ q r u → CallsDemand3 s φ q r u
+
+-- 02, request 1: lent a picture with every filter null, both calls leave it as it is.
+abbrev pub CallsLeaveNulls : Type 0
+CallsLeaveNulls =
+    (s : Settings) (p : Planes) → Allowed s → Picture s p → (r : Answer) (q : Planes)
+    → (ForwardGives s (nulls s) p r q → (r ≡ Done) × (q ≡ p)) × (InverseGives s (nulls s) p r q → (r ≡ Done) × (q ≡ p))

@@ -1,4 +1,4 @@
-// The limits that 01 names, from both sides, and a case of each other refusal.
+// The limits that 01 names, from both sides, a case of each other refusal, and null steps.
 use crate::text::print_answer;
 use crate::text::print_choices;
 use crate::text::print_planes;
@@ -84,6 +84,17 @@ fn other_settings() {
     of_settings(1, 1, 2, &[12, 13]);
 }
 
+// Steps whose places are all null, and steps with one null of two places.
+fn null_steps() {
+    of_settings(1, 1, 3, &[12, 12, 12]);
+    of_settings(1, 1, 3, &[12, 0, 0]);
+    of_settings(1, 1, 2, &[12, 0]);
+    of_settings(1, 1, 2, &[0, 12]);
+    of_settings(1, 1, 0, &[0, 0, 12, 12]);
+    of_settings(1, 1, 0, &[0, 0, 12, 0]);
+    of_settings(1, 1, 0, &[0, 0, 0, 12]);
+}
+
 pub(crate) fn limits() {
     longest();
     too_long();
@@ -96,4 +107,5 @@ pub(crate) fn limits() {
     of_samples(0, 256, 0);
     of_samples(0, 0, -1);
     other_settings();
+    null_steps();
 }

@@ -7,25 +7,22 @@ use Prim.Native.Nat.{ℕ, zero, suc, _+_, _≤_}
 use native.Mathlib.Omega.{arith}
 use borrow.Author.Tests.{eqb-false, lt-ltb, le-ltb}
 use lib.Dec.{ltb, leb·suc-suc}
-use lib.IntN.{ℤ, _+ℤ_}
 use lib.ListN.{length, take, drop, set}
 use lib.Seq.{getD-set-other}
-use Rattle.integers.specs.Parts.{floorDiv}
 use Rattle.integers.specs.Slices.{slice}
 use Rattle.integers.proofs.Booleans.{false-fails}
-use Rattle.integers.proofs.Lists.{mapIndexed-same}
 use Rattle.integers.proofs.Slices.{slice-none, slice-back}
 use Rattle.stage.specs.declared.Settings.{Settings}
 use Rattle.stage.specs.declared.Plane.{Plane}
 use Rattle.stage.specs.declared.Plane.the-variants.{C1, C2, C3}
 use Rattle.stage.specs.Settings.{Allowed}
-use Rattle.stage.specs.Planes.{Triple, Planes, triple, get, put, samePlane}
-use Rattle.stage.specs.Filter.{filtered}
-use Rattle.stage.specs.Steps.{Setup, Step, Term, _ᵈ_, _⊕_, _/2, _/4, value, lift, lifted, step, run, undo, steps}
+use Rattle.stage.specs.Planes.{Triple, Planes, triple, get, samePlane}
+use Rattle.stage.specs.Steps.{Setup, Step, Term, _ᵈ_, _⊕_, _/2, _/4, step, run, undo, steps}
 use Rattle.stage.specs.Ranges.{widest}
 use Rattle.stage.specs.Transform.{setup}
 use Rattle.stage.specs.Estimate.{planeEstimate, pictureEstimate}
 use Rattle.stage.proofs.Triples.{get-other}
+use Rattle.stage.proofs.Setups.{SameFilters, step-same}
 use Rattle.stage.proofs.StepLists.{slice-undone}
 use Rattle.stage.proofs.Numbers.{extent-widest, widest-most}
 use Rattle.stage.proofs.Validity.{pixels-some, pixels-most}
@@ -49,24 +46,17 @@ module _ (s : Settings) (φ : List ℕ) (k f : ℕ) where
   τ = setup s (set φ k f)
 
   -- a term without the place does not depend on it
-  value-same : (p : Planes) (t : Term) → hasPlace t k ≡ false → (i : ℕ) → value τ p t i ≡ value σ p t i
-  value-same p (c ᵈ j) e i = ap (λ (g : ℕ). filtered (s .width) (s .height) g (get p c) i) (getD-set-other φ k j f 0 (eqb-false j k e))
-  value-same p (t ⊕ u) e i =
-      let b = or-false (hasPlace t k) (hasPlace u k) e in
-      ap₂ _+ℤ_ (value-same p t (b .0) i) (value-same p u (b .1) i)
-  value-same p (t /2) e i = ap (λ (z : ℤ). floorDiv z 2) (value-same p t e i)
-  value-same p (t /4) e i = ap (λ (z : ℤ). floorDiv z 4) (value-same p t e i)
-
-  step-same : (x : Step) (p : Planes) → hasPlace (x .term) k ≡ false → step τ x p ≡ step σ x p
-  step-same x p e =
-      ap (put p (x .plane))
-      (mapIndexed-same (lifted τ p x) (lifted σ p x) (λ i z. ap (λ (v : ℤ). lift (x .lifting) v z) (value-same p (x .term) e i)) 0 (get p (x .plane)))
+  same-places : (t : Term) → hasPlace t k ≡ false → (i : ℕ) → SameFilters τ σ t i
+  same-places (c ᵈ j) e i = getD-set-other φ k j f 0 (eqb-false j k e)
+  same-places (t ⊕ u) e i = let b = or-false (hasPlace t k) (hasPlace u k) e in (same-places t (b .0) i, same-places u (b .1) i)
+  same-places (t /2) e i = same-places t e i
+  same-places (t /4) e i = same-places t e i
 
   -- the steps before the place's own do not depend on it
   before : (x : Step) (l : List Step) (n : ℕ) (p : Planes) → ((q : Planes) → run τ (take n l) q ≡ run σ (take n l) q) → (b : Bool) → hasPlace (x .term) k ≡ b
       → run τ (take (cond b 0 (suc n)) (x ∷ l)) p ≡ run σ (take (cond b 0 (suc n)) (x ∷ l)) p
   before x l n p h true e = refl
-  before x l n p h false e = ap (run τ (take n l)) (step-same x p e) ∙ h (step σ x p)
+  before x l n p h false e = ap (run τ (take n l)) (step-same τ σ refl refl p refl refl x (same-places (x .term) e)) ∙ h (step σ x p)
 
   pub run-before : (l : List Step) (p : Planes) → run τ (take (stepOf l k) l) p ≡ run σ (take (stepOf l k) l) p
   run-before [] p = refl

@@ -9,7 +9,7 @@ use denote.Ref.{now}
 use Rattle.stage.specs.Planes.{Planes, triple}
 use Rattle.stage.specs.Transform.{choicesFit}
 use Rattle.stage.specs.Search.{choicesEstimate}
-use Rattle.stage.proofs.Choices.{choices-zero}
+use Rattle.stage.proofs.Choices.{choices-equal}
 use Rattle.lifting.proofs.Readiness.{picture-first}
 use Rattle.trials.proofs.Rounds.{zero-same, searched-is}
 use Rattle.trials.proofs.search_picture.Statement.{statement}
@@ -28,7 +28,7 @@ zeros k = k .clear-choices .last .0
 fit : (k : tie.After-clear-choices) → T (choicesFit (start k .args .settings) (zeros k))
 fit k =
     let a = start k in
-    subst (λ (φ : List ℕ). T (choicesFit (a .args .settings) φ)) (sym (k .clear-choices .ensures)) (choices-zero (a .args .settings) (length (now (a .args .choices))) (a .pre .1))
+    subst (λ (φ : List ℕ). T (choicesFit (a .args .settings) φ)) (sym (k .clear-choices .ensures)) (choices-equal (a .args .settings) (length (now (a .args .choices))) 0 tt (a .pre .1))
 
 abbrev cleared : tie.After-estimate-picture → tie.After-clear-choices
 cleared e = e .before .before .before .before .before .before .before .before

@@ -4,7 +4,8 @@ use denote.Ref.{now}
 use Rattle.stage.specs.declared.Plane.{Plane}
 use Rattle.stage.specs.declared.Plane.the-variants.{C1, C2, C3}
 use Rattle.stage.specs.Planes.{Planes, triple, samePlane}
-use Rattle.lifting.proofs.TransformPasses.{PassOf, pass-liftable, pass-changed}
+use Rattle.lifting.specs.Passes.{passAt}
+use Rattle.lifting.proofs.TransformPasses.{PassOf, pass-liftable, pass-changed, pass-skipped}
 use Rattle.lifting.proofs.steps.lift_plane.Statement.{statement}
 use Rattle.lifting.proofs.steps.lift_plane.Tie as tie
 
@@ -12,7 +13,11 @@ abbrev planes : tie.Start → Planes
 planes a = triple (now (a .args .c1)) (now (a .args .c2)) (now (a .args .c3))
 
 abbrev start : tie.After-same-plane → tie.Start
-start r = r .before .before .before .before .before .before
+start r = r .before .before .before .before .before .before .before
+
+-- the filter is not null
+unskipped : (r : tie.After-same-plane) → start r .args .filter ≡ 12 → ⊥
+unskipped r = r .before .before .before .before .before .before .if1 .left
 
 -- the pass's numbers, where it changes plane c
 of : (r : tie.After-same-plane) (c : Plane) → r .before .before .before .before .before .pass-at .result .changed ≡ c
@@ -26,8 +31,13 @@ of r c e =
       changed-is = e;
     }
 
+returns : tie.Need-returns
+returns c =
+    let a = c .before .args in
+    pass-skipped (a .settings) (a .back) (a .filter) (a .from) (a .to) (passAt (a .settings .transform) (a .place)) (planes (c .before)) (c .if1 .taken)
+
 pass-at-requires : tie.Need-pass-at-requires
-pass-at-requires c κs = c .pre .place
+pass-at-requires c κs = c .before .pre .place
 
 pass-number-requires : tie.Need-pass-number-requires
 pass-number-requires c κs = search needs
@@ -71,28 +81,29 @@ lift-by-requires-3 c κs =
     let r = e .before .before in
     pass-liftable (start r .pre) (of r C3 (e .enum-told3 .given .1))
 
-returns : tie.Need-returns
-returns c =
-    let e = c .before .before .before .before .before in
-    let r = e .before .before in
-    pass-changed (start r .pre) (of r C1 (e .enum-told .given .1)) (c .before .lift-by .ensures)
-
 returns-2 : tie.Need-returns-2
 returns-2 c =
     let e = c .before .before .before .before .before in
     let r = e .before .before in
-    pass-changed (start r .pre) (of r C2 (e .enum-told2 .given .1)) (c .before .lift-by2 .ensures)
+    pass-changed (start r .pre) (of r C1 (e .enum-told .given .1)) (unskipped r) (c .before .lift-by .ensures)
 
 returns-3 : tie.Need-returns-3
 returns-3 c =
     let e = c .before .before .before .before .before in
     let r = e .before .before in
-    pass-changed (start r .pre) (of r C3 (e .enum-told3 .given .1)) (c .before .lift-by3 .ensures)
+    pass-changed (start r .pre) (of r C2 (e .enum-told2 .given .1)) (unskipped r) (c .before .lift-by2 .ensures)
+
+returns-4 : tie.Need-returns-4
+returns-4 c =
+    let e = c .before .before .before .before .before in
+    let r = e .before .before in
+    pass-changed (start r .pre) (of r C3 (e .enum-told3 .given .1)) (unskipped r) (c .before .lift-by3 .ensures)
 
 pub lift-plane-spec : {M : Type 1} → statement M
 lift-plane-spec =
     tie.close
     (tie.spec
+    returns
     pass-at-requires
     pass-number-requires
     cast-w
@@ -106,8 +117,8 @@ lift-plane-spec =
     enum-told-3
     lift-by-requires-3
     (λ c. search needs) (λ c. search needs) (λ c. search needs)
-    returns
-    (λ c. search needs) (λ c. search needs) (λ c. search needs)
     returns-2
     (λ c. search needs) (λ c. search needs) (λ c. search needs)
-    returns-3)
+    returns-3
+    (λ c. search needs) (λ c. search needs) (λ c. search needs)
+    returns-4)

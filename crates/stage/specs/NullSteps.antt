@@ -1,0 +1,58 @@
+-- What is proved of null steps, those whose places are all null (02, request 1). σ is what the steps run with, x a step.
+use mathlib.Core.Path.{_≡_}
+use mathlib.Core.Bool.{Bool, true, false, not, _&&_}
+use mathlib.Core.List.{List, [], _∷_}
+use Prim.Native.Nat.{ℕ, _≤_}
+use lib.Dec.{T}
+use lib.ListN.{replicate}
+use Rattle.stage.specs.Settings.{Settings, Allowed}
+use Rattle.stage.specs.Planes.{Planes}
+use Rattle.stage.specs.Steps.{Setup, Step, Lifting, add, subtract, negate, allNull, reversed, step, run, undo, steps, places}
+use Rattle.stage.specs.Transform.{setup, transformed, untransformed, Picture, forward, inverse}
+use Rattle.stage.specs.Demand3.{GoesTo, accepted}
+
+-- "a step whose places are all null leaves its plane unchanged, both ways", in every setup that skips null steps
+abbrev pub NullStepsSkipped : Type 0
+NullStepsSkipped =
+    (σ : Setup) (x : Step) (p : Planes) → T (σ .skips) → ((i : ℕ) → T (allNull σ (x .term) i)) → (step σ x p ≡ p) × (step σ (reversed x) p ≡ p)
+
+-- "Artists store masks with every filter null and expect untouched planes": every picture goes to itself, under each of the four
+-- transforms, and back.
+abbrev pub nulls : Settings → List ℕ
+nulls s = replicate (places (steps (s .transform))) 12
+
+pub record Untouched (s : Settings) (p : Planes) : Type 0 where
+  pub goes : GoesTo s (nulls s) p p
+  pub there : forward s (nulls s) p ≡ accepted p
+  pub back : inverse s (nulls s) p ≡ accepted p
+
+abbrev pub NullsLeavePictures : Type 0
+NullsLeavePictures = (s : Settings) (p : Planes) → Allowed s → Picture s p → Untouched s p
+
+-- Only a step that negates differs by its skip: another null step would add or subtract 0.
+abbrev pub negates : Lifting → Bool
+negates add = false
+negates subtract = false
+negates negate = true
+
+-- no step that negates is null
+abbrev pub NoneNegatesNull : Setup → List Step → Type 0
+NoneNegatesNull σ [] = Unit {0}
+NoneNegatesNull σ (x ∷ l) = ((i : ℕ) → T (not (negates (x .lifting) && allNull σ (x .term) i))) × NoneNegatesNull σ l
+
+-- the same run with no step skipped: the steps of 01 by itself
+abbrev pub unskipped : Setup → Setup
+unskipped σ = record { width = σ .width; height = σ .height; filter = σ .filter; skips = false; keep = σ .keep }
+
+pub record AsUnskipped (s : Settings) (φ : List ℕ) (p : Planes) : Type 0 where
+  pub there : transformed s φ p ≡ run (unskipped (setup s φ)) (steps (s .transform)) p
+  pub back : untransformed s φ p ≡ undo (unskipped (setup s φ)) (steps (s .transform)) p
+
+-- So planes stored before steps were skipped come back as they did, unless a step that negated them was null: always those of RCT and
+-- YCoCg-R, which have no such step.
+abbrev pub SkipsMatterToNegation : Type 0
+SkipsMatterToNegation =
+    (s : Settings) (φ : List ℕ) (p : Planes) → NoneNegatesNull (setup s φ) (steps (s .transform)) → AsUnskipped s φ p
+
+abbrev pub FirstTwoAsUnskipped : Type 0
+FirstTwoAsUnskipped = (s : Settings) (φ : List ℕ) (p : Planes) → s .transform ≤ 1 → AsUnskipped s φ p
