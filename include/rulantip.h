@@ -15,7 +15,11 @@
      3  LDgEb    C2 = -C2 + C1d; C1 = C1 - C2d/2; C3 = C3 - C1d                        3 places
 
    FILTERS 0 gives the sample itself; 1 to 11 the mean of the 3 by 3 window with centre weight
-   2^(filter - 1); 12 gives 0. CHOICES are one filter for each place, in the order of the places.
+   2^(filter - 1); 12, null, gives 0. CHOICES are one filter for each place, in the order of the places.
+   A step whose places are all null is skipped, forward and back: it leaves its plane as it is. So with
+   filter 12 at every place the planes stay as they are, as masks need it. (An earlier version negated
+   the plane of such a step of RDgDb and of LDgEb's first. Planes that it made so come back as the same
+   picture or are refused with 12.)
 
    WHAT THE CALLER OWES, and no call can test:
    - Each pointer points to as many elements as the length after it says. For length 0 any pointer

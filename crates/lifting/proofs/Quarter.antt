@@ -1,5 +1,5 @@
 -- RCT's third step row by row: two passes over each row make the step.
-use mathlib.Core.Path.{_≡_, refl, sym, ap₂, _∙_}
+use mathlib.Core.Path.{_≡_, refl, ap₂, _∙_}
 use mathlib.Core.Bool.{Bool, true, false, cond}
 use mathlib.Core.List.{List}
 use Prim.Native.Nat.{ℕ, _≤_}
@@ -7,7 +7,7 @@ use native.Mathlib.Omega.{arith}
 use lib.Dec.{lit≤}
 use lib.IntN.{ℤ, pos, _+ℤ_}
 use Rattle.integers.specs.Parts.{In}
-use Rattle.integers.specs.Lists.{at, AllIn, Changed}
+use Rattle.integers.specs.Lists.{AllIn, Changed}
 use Rattle.integers.proofs.FloorDivision.{floorDiv-low, floorDiv-high}
 use Rattle.integers.proofs.Linear.{flat, count, in-lin}
 use Rattle.integers.proofs.Lists.{all-wider}
@@ -16,7 +16,7 @@ use Rattle.integers.proofs.Changes.{changed-idle, changed-join, changed-as, cha
 use Rattle.stage.specs.Filter.{filtered}
 use Rattle.stage.specs.Steps.{add, subtract}
 use Rattle.stage.proofs.Means.{filtered-in}
-use Rattle.stage.proofs.NullSteps.{lift-nothing}
+use Rattle.stage.proofs.Unskipped.{lift-nothing}
 use Rattle.kernel.specs.Pass.{applied}
 use Rattle.kernel.proofs.Quarters.{quarter-added, quarter-subtracted}
 use Rattle.lifting.specs.Passes.{quarterLifted, quarterAt}

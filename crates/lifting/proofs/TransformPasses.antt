@@ -18,8 +18,8 @@ use Rattle.stage.specs.Planes.{Planes, get, put, samePlane}
 use Rattle.stage.specs.Filter.{filtered}
 use Rattle.stage.specs.Steps.{reversed, steps, places, step}
 use Rattle.stage.specs.Transform.{HasSize, setup}
-use Rattle.stage.proofs.Triples.{get-put, get-other}
-use Rattle.stage.proofs.NullSteps.{lifted-unskipped}
+use Rattle.stage.proofs.Triples.{get-put, get-other, others-same}
+use Rattle.stage.proofs.Unskipped.{lifted-unskipped}
 use Rattle.kernel.specs.Pass.{applied}
 use Rattle.kernel.specs.Lifting.{Liftable}
 use Rattle.lifting.specs.declared.passes.Pass.{Pass}
@@ -128,13 +128,7 @@ module _ {s : Settings} {k f from to : ℕ} {p : Planes} {back : Bool} {x : Pass
 pub pass-skipped : (s : Settings) (back : Bool) (f from to : ℕ) (x : Pass) (p : Planes) → f ≡ 12 → RowsChanged (passed s back f x p) (x .changed) s from to p p
 pass-skipped s back f from to x p e = record { rows = changed-idle _ _ _ _ (λ i z. rw e); others = λ d h. refl }
 
--- ---- planes that differ in one plane
-others-same : (p q : Planes) (c : Plane) → ((d : Plane) → T (not (samePlane d c)) → get q d ≡ get p d) → q ≡ put p c (get q c)
-others-same p q C1 h = λ i. record { c1 = q .c1; c2 = h C2 tt i; c3 = h C3 tt i }
-others-same p q C2 h = λ i. record { c1 = h C1 tt i; c2 = q .c2; c3 = h C3 tt i }
-others-same p q C3 h = λ i. record { c1 = h C1 tt i; c2 = h C2 tt i; c3 = q .c3 }
-
--- all rows changed
+-- ---- all rows changed
 pub changed-rows : {f : ℕ → ℤ → ℤ} {before after : List ℤ} (w h : ℕ) → length before ≡ w * h → Changed f (0 * w) (h * w) before after → after ≡ mapIndexed f 0 before
 changed-rows {f} {before} {after} w h z u =
     let e : 0 * w ≡ 0 = omega arith in

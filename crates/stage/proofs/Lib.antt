@@ -11,6 +11,8 @@ pub mod Choices
 pub mod Demand3
 pub mod Setups
 pub mod NullSteps
+pub mod Unskipped
+pub mod StoredPlanes
 pub mod Equations
 pub mod Logarithm
 pub mod Prediction

@@ -52,7 +52,7 @@ pub record Reversible (keep : ℤ → ℤ) : Type 0 where
   pub again : (x : ℤ) → keep (keep x) ≡ keep x
   pub zero : keep (pos 0) ≡ pos 0
 
-lift-undone : (k : Lifting) (v x : ℤ) → lift (opposite k) v (lift k v x) ≡ x
+pub lift-undone : (k : Lifting) (v x : ℤ) → lift (opposite k) v (lift k v x) ≡ x
 lift-undone add v x = +ℤ-negℤ-cancel x v
 lift-undone subtract v x = -ℤ-+ℤ-cancel x v
 lift-undone negate v x = rw (negℤ-+ℤ, negℤ-negℤ) (-ℤ-+ℤ-cancel x v)

@@ -48,6 +48,12 @@ module _ {A : Type 0} where
   get-other p C3 C2 a h = refl
   get-other p C3 C3 a h = absurd h
 
+  -- triples that differ in one plane
+  pub others-same : (p q : Triple A) (c : Plane) → ((d : Plane) → T (not (samePlane d c)) → get q d ≡ get p d) → q ≡ put p c (get q c)
+  others-same p q C1 h = λ i. record { c1 = q .c1; c2 = h C2 tt i; c3 = h C3 tt i }
+  others-same p q C2 h = λ i. record { c1 = h C1 tt i; c2 = q .c2; c3 = h C3 tt i }
+  others-same p q C3 h = λ i. record { c1 = h C1 tt i; c2 = h C2 tt i; c3 = q .c3 }
+
 -- what relates two triples plane by plane still does once related things are put at the same plane of both
 module _ {A B : Type 0} (R : Plane → A → B → Type 0) (p : Triple A) (q : Triple B) (h : (c : Plane) → R c (get p c) (get q c)) (a : A) (b : B) where
   pub put-both : (d : Plane) → R d a b → (c : Plane) → R c (get (put p d a) c) (get (put q d b) c)

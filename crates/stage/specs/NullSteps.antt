@@ -36,23 +36,28 @@ negates subtract = false
 negates negate = true
 
 -- no step that negates is null
-abbrev pub NoneNegatesNull : Setup → List Step → Type 0
-NoneNegatesNull σ [] = Unit {0}
-NoneNegatesNull σ (x ∷ l) = ((i : ℕ) → T (not (negates (x .lifting) && allNull σ (x .term) i))) × NoneNegatesNull σ l
+abbrev pub NoNullNegation : Setup → List Step → Type 0
+NoNullNegation σ [] = Unit {0}
+NoNullNegation σ (x ∷ l) = ((i : ℕ) → T (not (negates (x .lifting) && allNull σ (x .term) i))) × NoNullNegation σ l
 
 -- the same run with no step skipped: the steps of 01 by itself
 abbrev pub unskipped : Setup → Setup
 unskipped σ = record { width = σ .width; height = σ .height; filter = σ .filter; skips = false; keep = σ .keep }
 
-pub record AsUnskipped (s : Settings) (φ : List ℕ) (p : Planes) : Type 0 where
+pub record SameUnskipped (s : Settings) (φ : List ℕ) (p : Planes) : Type 0 where
   pub there : transformed s φ p ≡ run (unskipped (setup s φ)) (steps (s .transform)) p
   pub back : untransformed s φ p ≡ undo (unskipped (setup s φ)) (steps (s .transform)) p
 
 -- So planes stored before steps were skipped come back as they did, unless a step that negated them was null: always those of RCT and
 -- YCoCg-R, which have no such step.
-abbrev pub SkipsMatterToNegation : Type 0
-SkipsMatterToNegation =
-    (s : Settings) (φ : List ℕ) (p : Planes) → NoneNegatesNull (setup s φ) (steps (s .transform)) → AsUnskipped s φ p
+abbrev pub SkipsMatterOnlyInNegation : Type 0
+SkipsMatterOnlyInNegation =
+    (s : Settings) (φ : List ℕ) (p : Planes) → NoNullNegation (setup s φ) (steps (s .transform)) → SameUnskipped s φ p
 
-abbrev pub FirstTwoAsUnskipped : Type 0
-FirstTwoAsUnskipped = (s : Settings) (φ : List ℕ) (p : Planes) → s .transform ≤ 1 → AsUnskipped s φ p
+abbrev pub FirstTwoUnaffected : Type 0
+FirstTwoUnaffected = (s : Settings) (φ : List ℕ) (p : Planes) → s .transform ≤ 1 → SameUnskipped s φ p
+
+-- In every case the inverse, lent the planes that a picture p went to without a skip, leaves p or refuses: never another picture.
+abbrev pub NoOtherPicture : Type 0
+NoOtherPicture =
+    (s : Settings) (φ : List ℕ) (p r : Planes) → Picture s p → inverse s φ (run (unskipped (setup s φ)) (steps (s .transform)) p) ≡ accepted r → r ≡ p

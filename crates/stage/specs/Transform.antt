@@ -2,7 +2,7 @@
 -- s stands for the settings, φ for the choices, p for planes lent to the forward call and q for those lent to the inverse, l for the
 -- lengths of three planes, f for a filter's number, n for a number of choices or samples.
 use mathlib.Core.Path.{_≡_}
-use mathlib.Core.Bool.{Bool, true, false, _&&_}
+use mathlib.Core.Bool.{Bool, true, _&&_}
 use mathlib.Core.List.{List, [], _∷_, _++_}
 use Prim.Native.Nat.{ℕ}
 use lib.Dec.{leb, eqb}

@@ -70,29 +70,30 @@ planeCases =
     ∷ (count (2 * widest (settingsOf 1 1 8 1) + 1) gives count 1785)
     ∷ []
 
-abbrev given : Value
-given = accepted (pixel (pos 10) (pos 200) (pos 60))
+-- the pixel comes back
+abbrev again : Value
+again = accepted (pixel (pos 10) (pos 200) (pos 60))
 
 -- 02: "a step whose places are all null leaves its plane unchanged, both ways"
 unfoldable pub nullCases : List Case
 nullCases =
-    (back 2 (12 ∷ 12 ∷ []) (pixel (pos 10) (pos 200) (pos 60)) gives given)
-    ∷ (back 3 (12 ∷ 12 ∷ 12 ∷ []) (pixel (pos 10) (pos 200) (pos 60)) gives given)
+    (back 2 (12 ∷ 12 ∷ []) (pixel (pos 10) (pos 200) (pos 60)) gives again)
+    ∷ (back 3 (12 ∷ 12 ∷ 12 ∷ []) (pixel (pos 10) (pos 200) (pos 60)) gives again)
     -- planes that 01 by itself would have given, and that no picture goes to any more
     ∷ (back 2 (12 ∷ 12 ∷ []) (pixel (pos 10) (minus 200) (minus 60)) gives refuses 12 (pixel (pos 10) (minus 200) (minus 60)))
     -- RDgDb with one null of its two places, each in a step of its own
     ∷ (there 2 (12 ∷ 0 ∷ []) gives accepted (pixel (pos 10) (minus 190) (pos 60)))
-    ∷ (back 2 (12 ∷ 0 ∷ []) (pixel (pos 10) (minus 190) (pos 60)) gives given)
+    ∷ (back 2 (12 ∷ 0 ∷ []) (pixel (pos 10) (minus 190) (pos 60)) gives again)
     ∷ (there 2 (0 ∷ 12 ∷ []) gives accepted (pixel (pos 10) (pos 200) (pos 140)))
-    ∷ (back 2 (0 ∷ 12 ∷ []) (pixel (pos 10) (pos 200) (pos 140)) gives given)
+    ∷ (back 2 (0 ∷ 12 ∷ []) (pixel (pos 10) (pos 200) (pos 140)) gives again)
     -- LDgEb: plane 2, not negated, is halved into plane 1
     ∷ (there 3 (12 ∷ 0 ∷ 0 ∷ []) gives accepted (pixel (minus 90) (pos 200) (pos 150)))
-    ∷ (back 3 (12 ∷ 0 ∷ 0 ∷ []) (pixel (minus 90) (pos 200) (pos 150)) gives given)
+    ∷ (back 3 (12 ∷ 0 ∷ 0 ∷ []) (pixel (minus 90) (pos 200) (pos 150)) gives again)
     -- RCT's third step: not skipped with one null of two places, −140/4 and −190/4 rounded down; skipped with both
     ∷ (there 0 (0 ∷ 0 ∷ 12 ∷ 0 ∷ []) gives accepted (pixel (minus 190) (pos 165) (minus 140)))
-    ∷ (back 0 (0 ∷ 0 ∷ 12 ∷ 0 ∷ []) (pixel (minus 190) (pos 165) (minus 140)) gives given)
+    ∷ (back 0 (0 ∷ 0 ∷ 12 ∷ 0 ∷ []) (pixel (minus 190) (pos 165) (minus 140)) gives again)
     ∷ (there 0 (0 ∷ 0 ∷ 0 ∷ 12 ∷ []) gives accepted (pixel (minus 190) (pos 152) (minus 140)))
-    ∷ (back 0 (0 ∷ 0 ∷ 0 ∷ 12 ∷ []) (pixel (minus 190) (pos 152) (minus 140)) gives given)
+    ∷ (back 0 (0 ∷ 0 ∷ 0 ∷ 12 ∷ []) (pixel (minus 190) (pos 152) (minus 140)) gives again)
     ∷ (there 0 (0 ∷ 0 ∷ 12 ∷ 12 ∷ []) gives accepted (pixel (minus 190) (pos 200) (minus 140)))
     ∷ []
 
