@@ -115,12 +115,12 @@ module _ {s : Settings} {k f from to : ℕ} {p : Planes} {back : Bool} {x : Pass
 
   pub pass-changed : (f ≡ 12 → ⊥) → {after : List ℤ} → Changed (λ i z. applied n z (filtered (s .width) (s .height) f a i)) (from * s .width) (to * s .width) (get p c) after
       → RowsChanged (passed s back f X p) (X .changed) s from to p (put p c after)
-  pass-changed l {after} u =
+  pass-changed e {after} u =
       subst (λ (d : Plane). RowsChanged (passed s back f X p) d s from to p (put p c after)) (sym changed-same) (record {
         rows =
             subst (λ (l : List ℤ). Changed (passed s back f X p) (from * s .width) (to * s .width) (get p c) l) (sym (get-put p c after))
             (changed-as _ _ u refl refl
-            (λ i z _ _. ap₂ (λ (m : ℕ) (l : List ℤ). applied m z (filtered (s .width) (s .height) f l i)) number-same read-same ∙ rw (fails-false (eqb f 12) (λ t. l (eqb→eq f 12 t)))));
+            (λ i z _ _. ap₂ (λ (m : ℕ) (l : List ℤ). applied m z (filtered (s .width) (s .height) f l i)) number-same read-same ∙ rw (fails-false (eqb f 12) (λ t. e (eqb→eq f 12 t)))));
         others = λ d h. get-other p d c after h;
       })
 

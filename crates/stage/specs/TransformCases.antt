@@ -1,5 +1,5 @@
--- Cases of `forward` and `inverse` beyond 01's marked ones: its trap of halves, its limits, the order of refusals, and the ranges at
--- depth 8. The planes of six pixels come from a second implementation of 01.
+-- Cases of `forward` and `inverse` beyond 01's marked ones: its trap of halves, its limits, the order of refusals, the ranges at depth
+-- 8, and null steps. The planes of six pixels come from a second implementation of 01.
 use mathlib.Core.List.{List, [], _∷_}
 use Prim.Native.Nat.{ℕ, _+_, _*_}
 use lib.IntN.{ℤ, pos}
