@@ -1,12 +1,28 @@
 /* Passes over planes. A row function is made for each change and each filter, so its divisors are constants. */
 #include "bench.h"
 
+/* The union of what a test makes of each number, in LANES parts so that no operation waits for the one before it. */
+#define LANES 16
+#define UNION(bits, i, count, test) \
+    do { \
+        uint32_t part[LANES] = {0}; \
+        size_t i = 0; \
+        for (; i + LANES <= (count); i += LANES) \
+            for (size_t lane = i, j = 0; j < LANES; j++, lane++) { \
+                size_t i = lane; \
+                part[j] |= (test); \
+            } \
+        for (; i < (count); i++) \
+            part[0] |= (test); \
+        for (size_t j = 0; j < LANES; j++) \
+            (bits) |= part[j]; \
+    } while (0)
+
 /* Is every number 0 to most, where most is a power of two less one? */
 int are_samples(const int32_t *plane, size_t count, uint32_t most)
 {
     uint32_t bits = 0;
-    for (size_t i = 0; i < count; i++)
-        bits |= (uint32_t)plane[i];
+    UNION(bits, i, count, (uint32_t)plane[i]);
     return bits <= most;
 }
 
@@ -14,8 +30,7 @@ int are_samples(const int32_t *plane, size_t count, uint32_t most)
 int are_within(const int32_t *plane, size_t count, int32_t low, int32_t high)
 {
     uint32_t bits = 0;
-    for (size_t i = 0; i < count; i++)
-        bits |= ((uint32_t)plane[i] - (uint32_t)low) | ((uint32_t)high - (uint32_t)plane[i]);
+    UNION(bits, i, count, ((uint32_t)plane[i] - (uint32_t)low) | ((uint32_t)high - (uint32_t)plane[i]));
     return bits >> 31 == 0;
 }
 
