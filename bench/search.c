@@ -52,20 +52,25 @@ INLINE int32_t med(int32_t a, int32_t e, int32_t c)
 /* Counts the residuals, then adds up and clears the counters that were used. Gives the estimate; *samples becomes N. */
 static uint32_t estimate_plane(const setting *s, const int32_t *plane, uint32_t *counters, uint32_t *samples)
 {
-    uint32_t used[MOST_COUNTED], n = 0, sum = 0;
-    size_t width = s->width, count = width * s->height, every = (count + MOST_COUNTED - 1) / MOST_COUNTED;
-    size_t x = 0, across = every % width;
+    uint32_t used[MOST_COUNTED], sum = 0;
+    size_t width = s->width, count = width * s->height;
+    uint32_t n = count < MOST_COUNTED ? (uint32_t)count : MOST_COUNTED;
+    /* in 4096ths of a sample: the distance of counted samples, the index and the column */
+    uint64_t every = count < MOST_COUNTED ? MOST_COUNTED : count, row = (uint64_t)width * MOST_COUNTED;
+    uint64_t at = 0, x = 0, across = every % row;
     int32_t zero = widest(s->depth, s->transform);
-    for (size_t i = 0; i < count; i += every) {
+    for (uint32_t j = 0; j < n; j++) {
+        size_t i = at / MOST_COUNTED;
         const int32_t *p = plane + i;
         int32_t prediction;
-        if (i < width) prediction = i == 0 ? 0 : p[-1];
-        else if (x == 0) prediction = *(p - width);
+        if (at < row) prediction = i == 0 ? 0 : p[-1];
+        else if (x < MOST_COUNTED) prediction = *(p - width);
         else prediction = med(p[-1], *(p - width), *(p - width - 1));
-        used[n] = (uint32_t)(*p - prediction + zero);
-        counters[used[n++]]++;
+        used[j] = (uint32_t)(*p - prediction + zero);
+        counters[used[j]]++;
+        at += every;
         x += across;
-        x = x >= width ? x - width : x;
+        x = x >= row ? x - row : x;
     }
     for (uint32_t i = 0; i < n; i++) {
         uint32_t c = counters[used[i]];

@@ -123,7 +123,9 @@ uint32_t rulantip_inverse(
 typedef struct {
     uint32_t refusal;       /* 0, or the refusal's number */
     uint32_t estimate;      /* of the three finished planes together, in sixty-fourths of a bit */
-    uint32_t samples;       /* N, how many samples of each plane are counted, at most 4,096 */
+    uint32_t samples;       /* N, how many samples of each plane are counted: the lesser of its
+                               t = width * height samples and 4,096; sample i of them, from 0, has
+                               index i * t / N, rounded down */
 } rulantip_estimated;
 
 /* Estimates how many bits the picture's finished planes take under the choices given.

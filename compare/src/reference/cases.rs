@@ -74,12 +74,33 @@ fn logarithms() {
 fn counts() {
     // Residuals 0 0 0 1: counts 3 and 1.
     assert_eq!(plane_estimate(&[0, 0, 0, 1], 4), (209, 4));
-    for (samples, stride, counted) in
-        [(1, 1, 1), (4095, 1, 4095), (4096, 1, 4096), (4097, 2, 2049), (8192, 2, 4096), (8193, 3, 2731)]
-    {
+    // t, N, and the index of the second and of the last counted sample.
+    for (samples, counted, second, last) in [
+        (4095, 4095, 1, 4094),
+        (4096, 4096, 1, 4095),
+        (4097, 4096, 1, 4095),
+        (5000, 4096, 1, 4998),
+        (8191, 4096, 1, 8189),
+        (8192, 4096, 2, 8190),
+        (8193, 4096, 2, 8190),
+        (67_108_864, 4096, 16384, 67_092_480),
+    ] {
         let indices: Vec<usize> = counted_indices(samples).collect();
-        assert_eq!(indices.len(), counted);
-        assert!(indices.iter().enumerate().all(|(i, &index)| index == i * stride));
+        assert_eq!((indices.len(), indices[1], indices[counted - 1]), (counted, second, last));
+        // Rounded down: one index more would be beyond i × t / N.
+        let down = |(i, &index): (usize, &usize)| index * counted <= i * samples && i * samples < (index + 1) * counted;
+        assert!(indices.iter().enumerate().all(down));
+    }
+    assert_eq!(counted_indices(1).collect::<Vec<_>>(), [0]);
+    assert_eq!(counted_indices(5000).take(6).collect::<Vec<_>>(), [0, 1, 2, 3, 4, 6]);
+}
+
+/// 4,097 pixels of one colour: all residuals but the first are 0, so 4,096 counted samples give
+/// 4096 × 768 - 4095 × 767 for a plane; 2,049 of them, as the first rule had it, would give 704.
+#[test]
+fn one_colour() {
+    for width in [1, 17, 241, 4097] {
+        assert_eq!(plane_estimate(&[60; 4097], width), (4863, 4096));
     }
 }
 

@@ -28,7 +28,8 @@ pub fn residual(plane: &[i64], width: usize, index: usize) -> i64 {
 
 /// The indices that are counted in a plane of `samples` samples.
 pub fn counted_indices(samples: usize) -> impl Iterator<Item = usize> {
-    (0..samples).step_by(samples.div_ceil(4096))
+    let counted = samples.min(4096);
+    (0..counted).map(move |i| (i as u64 * samples as u64 / counted as u64) as usize)
 }
 
 /// A whole number in base 2^32, the least digit first.

@@ -82,10 +82,11 @@ fn every_depth() {
     });
 }
 
-/// More samples than are counted: strides above 1, and those just at the limits.
+/// More samples than are counted: those just at the limits, widths that divide neither their number nor 4,096, and narrow planes,
+/// where the next counted sample is a whole row further or more.
 #[test]
 fn larger_pictures() {
-    const SIZES: [(u32, u32); 12] = [
+    const SIZES: [(u32, u32); 17] = [
         (64, 64),
         (17, 241),
         (4097, 1),
@@ -98,13 +99,19 @@ fn larger_pictures() {
         (150, 151),
         (4096, 5),
         (7, 4681),
+        (2, 2500),
+        (3, 8000),
+        (5, 4915),
+        (8191, 3),
+        (4095, 2),
     ];
     each_round("estimates::larger_pictures", 2, |random, origin| {
         for (width, height) in SIZES {
             for transform in 0..TRANSFORMS {
                 let depth = random.one_of(&[2, 8, 10, 16]);
                 let case = random::case_of(random, Settings { width, height, depth, transform }, origin);
-                assert_eq!(case.estimate().refusal, 0, "{case}");
+                let answer = case.estimate();
+                assert_eq!((answer.refusal, answer.samples), (0, 4096), "{case}");
             }
         }
     });
@@ -112,7 +119,7 @@ fn larger_pictures() {
 
 #[test]
 fn larger_searches() {
-    const SIZES: [(u32, u32); 5] = [(1, 8192), (8192, 1), (64, 65), (97, 101), (130, 120)];
+    const SIZES: [(u32, u32); 6] = [(1, 8192), (8192, 1), (64, 65), (97, 101), (130, 120), (17, 241)];
     each_round("larger_searches", 1, |random, origin| {
         for (i, (width, height)) in SIZES.into_iter().enumerate() {
             let transform = i as u32 % TRANSFORMS;

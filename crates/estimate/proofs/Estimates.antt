@@ -7,7 +7,7 @@ use lib.IntN.{ℤ}
 use lib.ListN.{length}
 use Rattle.stage.specs.Logarithm.{L}
 use Rattle.stage.specs.Estimate.{counted, countedIndex, countedResidual, histogram, sameNumber, logSum, estimateOfCounts, planeEstimate}
-use Rattle.stage.proofs.Counting.{counted-rule}
+use Rattle.stage.proofs.Counting.{counted-some, counted-most}
 use Rattle.stage.proofs.Histogram.{logSum-bound, log-product-most}
 use Rattle.stage.proofs.Prediction.{histogram-total}
 use Rattle.estimate.specs.Counting.{Countable, bin, Holds, AllBelow, entry}
@@ -25,7 +25,7 @@ pub record Difference (product sum e : ℕ) : Type 0 where
 
 module _ {w d : ℕ} {a : List ℤ} {n : ℕ} {bins : List ℕ} (x : Countable w d a) (e : n ≡ counted (length a)) (h : Holds (λ j. bin d (countedResidual w a j)) n bins) where
   pub plane-size : Size n
-  plane-size = let r = counted-rule (length a) (x .some) in rw e (record { some = r .some; most = r .most })
+  plane-size = rw e (record { some = counted-some (length a) (x .some); most = counted-most (length a) })
 
   pub plane-bins : (m : ℕ) → 2 * d < m → AllBelow m n bins
   plane-bins = bins-below (λ j. within-residual w a (countedIndex (length a) j) (x .range)) h

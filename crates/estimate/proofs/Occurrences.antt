@@ -1,7 +1,7 @@
--- The two passes over the counters, one turn at a time.
+-- The counters in both passes, one turn at a time.
 use mathlib.Core.Path.{_≡_, refl, sym, _∙_}
 use mathlib.Core.List.{List}
-use Prim.Native.Nat.{ℕ, _+_, _*_, _≤_, _<_}
+use Prim.Native.Nat.{ℕ, zero, suc, _+_, _*_, _≤_, _<_}
 use native.Mathlib.Omega.{arith}
 use native.Mathlib.Numerals.{add-one}
 use native.Mathlib.Nat.{zero-add, le-trans}
@@ -13,15 +13,9 @@ use borrow.Table.Steps.{cases}
 use Rattle.stage.specs.Logarithm.{L}
 use Rattle.stage.specs.Estimate.{occurrences, histogram, total, logSum}
 use Rattle.stage.proofs.Histogram.{occurrences-le, total-le, logSum-bound, log-product-most}
-use Rattle.estimate.specs.Counting.{AllZero, Occurrences, Remaining}
+use Rattle.estimate.specs.Counting.{Holds, AllZero, Occurrences, Remaining, entry}
 
--- after j of n turns of the first pass, from the counters l₀
-pub record FirstPass (f : ℕ → ℕ) (n j : ℕ) (l₀ l : List ℕ) : Type 0 where
-  pub turns : j ≤ n
-  pub long : length l ≡ length l₀
-  pub counts : Occurrences f j l
-
--- the same of the second, with the sum so far
+-- after j of n turns of the second pass, from the counters l₀, with the sum so far
 pub record SecondPass (f : ℕ → ℕ) (n j : ℕ) (l₀ l : List ℕ) (s : ℕ) : Type 0 where
   pub turns : j ≤ n
   pub long : length l ≡ length l₀
@@ -69,6 +63,15 @@ module _ {f : ℕ → ℕ} {l : List ℕ} where
 
   pub remaining-le : {n m : ℕ} → Remaining f n m l → (x : ℕ) → getD l x 0 ≤ n
   remaining-le {n} {m} t x = rw (t .each x) (cases (eqb (occurrences eqb f m x) 0) (λ e. rw e (occurrences-le eqb f n x)) (λ e. rw e (omega arith)))
+
+-- what the counters say of f they say of a list of its numbers
+occurrences-same : (f g : ℕ → ℕ) (n x : ℕ) → ((j : ℕ) → j < n → f j ≡ g j) → occurrences eqb f n x ≡ occurrences eqb g n x
+unfolding occurrences
+occurrences-same f g zero x e = refl
+occurrences-same f g (suc n) x e = rw (e n (omega arith), occurrences-same f g n x (λ j h. e j (omega arith)))
+
+pub occurrences-listed : {f : ℕ → ℕ} {n : ℕ} {bins l : List ℕ} → Holds f n bins → Occurrences f n l → Occurrences (entry bins) n l
+occurrences-listed {f} {n} {bins} h t = record { each = λ x. t .each x ∙ sym (occurrences-same (entry bins) f n x (h .each)) }
 
 pub logSum-most : (f : ℕ → ℕ) (n m : ℕ) → n ≤ 4096 → logSum (histogram eqb f n m) ≤ 3145728
 logSum-most f n m h =

@@ -1,9 +1,9 @@
 -- What the counting asks of a plane, and what the lent counters hold meanwhile.
 use mathlib.Core.Path.{_≡_}
-use mathlib.Core.Bool.{cond}
+use mathlib.Core.Bool.{Bool, cond}
 use mathlib.Core.List.{List}
 use Prim.Native.Nat.{ℕ, _+_, _*_, _%_, _≤_, _<_}
-use lib.Dec.{eqb}
+use lib.Dec.{ltb, eqb}
 use lib.IntN.{ℤ, pos, _+ℤ_}
 use lib.ListN.{length, getD}
 use Rattle.integers.specs.Parts.{posPart}
@@ -27,10 +27,11 @@ pub record Countable (w d : ℕ) (a : List ℤ) : Type 0 where
   pub small : d ≤ 262144
   pub range : RangeWithin d a
 
--- an index inside the plane, with its column
-pub record Inside (w : ℕ) (a : List ℤ) (i x : ℕ) : Type 0 where
+-- an index inside the plane, and whether it lies in the first row and in the first column
+pub record Inside (w : ℕ) (a : List ℤ) (i : ℕ) (top start : Bool) : Type 0 where
   pub inside : i < length a
-  pub column : x ≡ i % w
+  pub row : top ≡ ltb i w
+  pub column : start ≡ eqb (i % w) 0
 
 -- The counter of a residual z is z + d: 2 × d + 1 counters hold all.
 unfoldable pub bin : ℕ → ℤ → ℕ

@@ -1,4 +1,4 @@
-// How often each residual occurs, by the lent counters.
+// The sum over how often each residual occurs, by the lent counters.
 ghost use mathlib.Core.Path.{_≡_};
 ghost use Prim.Native.Nat.{_*_, _≤_};
 ghost use lib.Dec.{eqb};
@@ -15,19 +15,6 @@ fn log_product(table: &[u16; 4096], c: u32) -> u32
 {
     let at = (c + 4095) % 4096;
     c * (table[at as usize] as u32)
-}
-
-// The first pass: how often each of the n residuals occurs.
-pub fn count(bins: &[u32; 4096], n: usize, counters: &mut [u32])
-    requires { ⌜ n ≤ 4096 ⌝ }
-    requires { ⌜ AllBelow (length (now counters)) n (now bins) ⌝ }
-    requires { ⌜ AllZero (now counters) ⌝ }
-    ensures { λ _. ⌜ Occurrences (entry (now (bins .entry))) n (now (counters .exit)) ⌝ }
-{
-    for j in 0..n {
-        let x = bins[j] as usize;
-        counters[x] += 1;
-    }
 }
 
 // The second pass: the sum of c × L(c) over the counts c, each once, since a counter that is added is cleared.

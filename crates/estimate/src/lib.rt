@@ -3,25 +3,14 @@ mod histogram;
 mod residual;
 
 ghost use mathlib.Core.Path.{_≡_};
-ghost use Prim.Native.Nat.{_≤_};
-ghost use Rattle.stage.specs.Estimate.{stride, counted, planeEstimate};
+ghost use Rattle.stage.specs.Estimate.{counted, planeEstimate};
 ghost use Rattle.estimate.specs.Counting.{PlaneReady, PlaneFound};
-
-// The counted samples of a plane of t are this far apart.
-fn stride(t: usize) -> usize
-    requires { ⌜ t ≤ 67108864 ⌝ }
-    ensures { λ r. ⌜ r ≡ stride t ⌝ }
-{
-    (t + 4095) / 4096
-}
 
 // N, of a plane of t samples.
 pub fn counted(t: usize) -> u32
-    requires { ⌜ (1 ≤ t) × (t ≤ 67108864) ⌝ }
     ensures { λ r. ⌜ r ≡ counted t ⌝ }
 {
-    let k = stride(t);
-    ((t + k - 1) / k) as u32
+    if t < 4096 { t as u32 } else { 4096 }
 }
 
 // A plane's estimate. The counters are zero before and after, and only those that were counted are visited: no cost grows with d.
@@ -37,8 +26,7 @@ pub fn plane_estimate(
 {
     let n = counted(plane.len());
     let mut bins: [u32; 4096] = [0; 4096];
-    residual::assign_bins(plane, width, d, n as usize, &mut bins);
-    histogram::count(&bins, n as usize, counters);
+    residual::count(plane, width, d, n as usize, &mut bins, counters);
     let sum = histogram::sum_and_clear(&bins, n as usize, counters, table);
     n * logs::log(table, n) - sum
 }

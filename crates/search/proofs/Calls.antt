@@ -21,7 +21,7 @@ use Rattle.stage.specs.Estimate.{counted}
 use Rattle.stage.specs.Search.{cleared, clearedScratch, scratchFits, scratchTests, searched, choicesEstimate, estimated, winners}
 use Rattle.stage.specs.Search as stage
 use Rattle.stage.proofs.Answers.{Holds, Numbered, holds-append}
-use Rattle.stage.proofs.Validity.{ValidSettings, settings-iff, has-size, length-at, pixels-some, pixels-most, ValidScratch, scratch-valid}
+use Rattle.stage.proofs.Validity.{ValidSettings, settings-iff, has-size, length-at, ValidScratch, scratch-valid}
 use Rattle.stage.proofs.Demand3.{withinRanges-iff}
 use Rattle.estimate.specs.Counting.{AllZero}
 use Rattle.trials.specs.Searches.{PictureReady}
@@ -69,9 +69,6 @@ module _ {s : Settings} {fit : Bool} {p t : Planes} {counters : List ℕ} (h : P
     c2 = omega (arith, size C2, r C2);
     c3 = omega (arith, size C3, r C3);
   }
-
-  pub counted-ready : (1 ≤ length (p .c1)) × (length (p .c1) ≤ 67108864)
-  counted-ready = rw (h .settings .size C1) (pixels-some (h .settings .allowed), pixels-most (h .settings .allowed))
 
 -- a picture p, copied to the front of the trial planes, which are then x, and cleared counters l
 pub record Work (s : Settings) (fit : Bool) (p t : Planes) (counters : List ℕ) (x : Planes) (l : List ℕ) : Type 0 where

@@ -3,7 +3,6 @@ mod refusals;
 mod scratch;
 
 ghost use mathlib.Core.Path.{_≡_};
-ghost use Prim.Native.Nat.{_≤_};
 ghost use Rattle.stage.specs.Estimate.{counted};
 ghost use Rattle.stage.specs.Planes.{triple};
 ghost use Rattle.search.specs.Calls.{scratchOf, lent, EstimateGives, SearchGives};
@@ -28,7 +27,6 @@ pub enum Estimated {
 
 // Success, for planes of n samples.
 fn found(estimate: u32, n: usize) -> Estimated
-    requires { ⌜ (1 ≤ n) × (n ≤ 67108864) ⌝ }
     ensures { λ r. ⌜ r ≡ Estimated.Done estimate (counted n) ⌝ }
 {
     Estimated::Done {

@@ -1,27 +1,38 @@
 -- The cases hold of the definitions, by computation.
-use mathlib.Core.Path.{refl}
+use mathlib.Core.Path.{_≡_, refl, ap, ap₂}
+use mathlib.Core.List.{[], _∷_}
+use Prim.Native.Nat.{ℕ, _*_, _-_, _≤_}
+use native.Mathlib.Omega.{arith}
+use lib.Dec.{lit≤}
 use lib.Ieee.{size}
 use Rattle.integers.specs.Lists.{allWithin}
 use Rattle.stage.specs.Decimal.{isDigit, decimal, digitCount, afterDigits, digits, numeral}
 use Rattle.stage.specs.Filter.{filtered, mean}
 use Rattle.stage.specs.Transform.{forward, inverse, transformed, untransformed}
 use Rattle.stage.specs.Logarithm.{L}
-use Rattle.stage.specs.Estimate.{med, prediction, residual, stride, counted, countedIndex, occurrences, histogram, total, logSum, estimateOfCounts, planeEstimate, pictureEstimate}
+use Rattle.stage.specs.Estimate.{med, prediction, residual, counted, countedIndex, occurrences, histogram, total, logSum, estimateOfCounts, planeEstimate, pictureEstimate}
 use Rattle.stage.specs.Search.{winner, round, rounds, searched, choicesEstimate, estimateCall, searchCall}
 use Rattle.stage.specs.Pixmap.{isWhite, endsStretch, staysInside, afterStretch, field, headerText, depthAmong, headerOf, rasterOf, everyThird, planesOf}
+use Rattle.stage.specs.Case.{count}
 use Rattle.stage.specs.Cases.{marked, CasesHold}
-use Rattle.stage.specs.FilterCases.{filterCases, FilterCasesHold}
+use Rattle.stage.specs.FilterCases.{oneColour, filterCases, countedCases, FilterCasesHold}
 use Rattle.stage.specs.TransformCases.{planeCases, nullCases, limitCases, orderCases, TransformCasesHold}
 use Rattle.stage.specs.SearchCases.{estimateCases, tieCases, scratchCases, EstimateCasesHold, TieCasesHold}
 use Rattle.stage.specs.PixmapCases.{textCases, fileCases, planesCases, PixmapCasesHold}
+use Rattle.stage.proofs.OneColour.{one-colour}
 
 pub cases-hold : CasesHold
 unfolding marked forward inverse transformed untransformed filtered mean allWithin med L size total logSum estimateOfCounts
 cases-hold = refl
 
+-- by how the colour's residuals occur: to count 4,096 of them one by one would take too long
+one-colour-case : (w t e : ℕ) → 1 ≤ w → 2 ≤ t → 3 * estimateOfCounts ((counted t - 1) ∷ 1 ∷ []) ≡ e → count (pictureEstimate w (oneColour t)) ≡ count e
+unfolding pictureEstimate
+one-colour-case w t e p h f = ap count (rw (one-colour w t 9 p h, one-colour w t 199 p h, one-colour w t 59 p h) (omega (arith, f)))
+
 pub filter-cases-hold : FilterCasesHold
-unfolding filterCases filtered mean med prediction residual stride counted countedIndex occurrences histogram L size total logSum estimateOfCounts planeEstimate
-filter-cases-hold = refl
+unfolding filterCases countedCases filtered mean med prediction residual counted countedIndex occurrences histogram L size total logSum estimateOfCounts planeEstimate
+filter-cases-hold = (refl, ap₂ _∷_ (one-colour-case 64 4096 _ (lit≤ tt) (lit≤ tt) refl) (ap₂ _∷_ (one-colour-case 17 4097 _ (lit≤ tt) (lit≤ tt) refl) refl))
 
 pub transform-cases-hold : TransformCasesHold
 unfolding planeCases nullCases limitCases orderCases forward inverse transformed untransformed filtered mean allWithin
@@ -32,7 +43,7 @@ unfolding tieCases winner round rounds searched
 tie-cases-hold = refl
 
 pub estimate-cases-hold : EstimateCasesHold
-unfolding estimateCases scratchCases transformed filtered mean allWithin med prediction residual stride counted countedIndex occurrences histogram L size total logSum estimateOfCounts planeEstimate pictureEstimate choicesEstimate estimateCall searchCall
+unfolding estimateCases scratchCases transformed filtered mean allWithin med prediction residual counted countedIndex occurrences histogram L size total logSum estimateOfCounts planeEstimate pictureEstimate choicesEstimate estimateCall searchCall
 estimate-cases-hold = (refl, refl)
 
 pub pixmap-cases-hold : PixmapCasesHold

@@ -18,6 +18,7 @@ pub mod Logarithm
 pub mod Prediction
 pub mod Histogram
 pub mod Counting
+pub mod OneColour
 pub mod Winner
 pub mod SharedSearch
 pub mod Cases

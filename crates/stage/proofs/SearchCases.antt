@@ -10,7 +10,7 @@ use Rattle.stage.specs.Planes.{Planes}
 use Rattle.stage.specs.Filter.{filtered, mean}
 use Rattle.stage.specs.Transform.{transformed}
 use Rattle.stage.specs.Logarithm.{L}
-use Rattle.stage.specs.Estimate.{med, prediction, residual, stride, counted, countedIndex, occurrences, histogram, total, logSum, estimateOfCounts, planeEstimate, pictureEstimate}
+use Rattle.stage.specs.Estimate.{med, prediction, residual, counted, countedIndex, occurrences, histogram, total, logSum, estimateOfCounts, planeEstimate, pictureEstimate}
 use Rattle.stage.specs.Search.{Estimated, Lent, choicesEstimate, searchCall}
 use Rattle.stage.specs.Case.{search}
 use Rattle.stage.specs.SearchCases.{searchCases, SearchCasesHold}
@@ -20,7 +20,7 @@ searches : (s : Settings) (p : Planes) (r : ℕ) (m : Lent) (o : Outcome Estimat
 searches s p r m o e = ap search (same-call s p r m ∙ e)
 
 pub search-cases-hold : SearchCasesHold
-unfolding searchCases transformed filtered mean allWithin med prediction residual stride counted countedIndex occurrences histogram L size total logSum estimateOfCounts planeEstimate pictureEstimate choicesEstimate leader sharedRound sharedRounds sharedCall
+unfolding searchCases transformed filtered mean allWithin med prediction residual counted countedIndex occurrences histogram L size total logSum estimateOfCounts planeEstimate pictureEstimate choicesEstimate leader sharedRound sharedRounds sharedCall
 search-cases-hold =
     ap₂ _∷_ (searches _ _ _ _ _ refl)
     (ap₂ _∷_ (searches _ _ _ _ _ refl) (ap₂ _∷_ (searches _ _ _ _ _ refl) (ap₂ _∷_ (searches _ _ _ _ _ refl) refl)))

@@ -1,8 +1,8 @@
--- The predictor, the counted samples, and the estimate of a plane and of a picture (01, "Estimate and search"). w is a plane's width,
--- a its samples, t how many they are, i a sample's index, j the number of a counted sample; 01's k is `stride t`.
+-- The predictor and the estimate of a plane and of a picture (01, "Estimate and search"), and the counted samples (02, request 2). w is
+-- a plane's width, a its samples, t how many they are, i a sample's index, j the number of a counted sample, from 0.
 use mathlib.Core.Bool.{Bool, cond, _&&_}
 use mathlib.Core.List.{List, [], _∷_}
-use Prim.Native.Nat.{ℕ, zero, suc, _+_, _*_, _-_, _/_, _%_}
+use Prim.Native.Nat.{ℕ, zero, suc, _+_, _*_, _-_, _/_, _%_, min}
 use lib.Dec.{ltb, eqb}
 use lib.IntN.{ℤ, pos, _+ℤ_, _-ℤ_}
 use lib.Signed.{leZ}
@@ -27,15 +27,13 @@ prediction w a i =
 unfoldable pub residual : (w : ℕ) (a : List ℤ) (i : ℕ) → ℤ
 residual w a i = at a i -ℤ prediction w a i
 
--- A picture of t samples a plane is counted at indices 0, k, 2k and so on, k being t / 4096 rounded up; N is how many these are.
-unfoldable pub stride : ℕ → ℕ
-stride t = (t + 4095) / 4096
-
+-- "N becomes exactly the lesser of t and 4,096",
 unfoldable pub counted : ℕ → ℕ
-counted t = (t + stride t - 1) / stride t
+counted t = min t 4096
 
+-- "and sample i, from 0, has index i × t / N rounded down": here sample j
 unfoldable pub countedIndex : (t j : ℕ) → ℕ
-countedIndex t j = j * stride t
+countedIndex t j = j * t / counted t
 
 -- A histogram of the values r 0, r 1, r 2 and so on.
 module _ {A : Type 0} (same : A → A → Bool) (r : ℕ → A) where

@@ -1,10 +1,12 @@
--- Cases of filters, prediction and counted samples beyond 01's marked ones. The numbers that 01 doesn't give come from a second
--- implementation of 01.
+-- Cases of filters, prediction and counted samples beyond 01's marked ones. The numbers that 01 and 02 don't give come from a second
+-- implementation of them.
 use mathlib.Core.List.{List, [], _∷_, map}
-use Prim.Native.Nat.{ℕ, _^_}
+use Prim.Native.Nat.{ℕ, _-_, _^_}
 use lib.IntN.{ℤ, pos}
+use lib.ListN.{replicate}
+use Rattle.stage.specs.Planes.{Planes, triple}
 use Rattle.stage.specs.Filter.{centreWeights, filtered}
-use Rattle.stage.specs.Estimate.{prediction, residual, stride, counted, countedIndex, planeEstimate}
+use Rattle.stage.specs.Estimate.{prediction, residual, counted, countedIndex, planeEstimate, pictureEstimate}
 use Rattle.stage.specs.Case.{Case, _gives_, Hold, count, counts, sample, samples, minus}
 
 abbrev indices : List ℕ
@@ -47,19 +49,32 @@ filterCases =
     gives samples (pos 0 ∷ pos 10 ∷ pos 20 ∷ pos 10 ∷ pos 17 ∷ pos 35 ∷ []))
     ∷ (samples (map (residual 3 plane) indices)
     gives samples (pos 10 ∷ pos 10 ∷ minus 15 ∷ minus 3 ∷ pos 33 ∷ minus 34 ∷ []))
-    -- "counted at indices 0, k, 2k and so on, k being t/4096 rounded up": k for t of 1, 4096, 4097, 8192, 8193 and 8192 × 8192
-    ∷ (counts (map stride (1 ∷ 4096 ∷ 4097 ∷ 8192 ∷ 8193 ∷ 67108864 ∷ []))
-    gives counts (1 ∷ 1 ∷ 2 ∷ 2 ∷ 3 ∷ 16384 ∷ []))
-    -- the count N of each
-    ∷ (counts (map counted (1 ∷ 4096 ∷ 4097 ∷ 8192 ∷ 8193 ∷ 67108864 ∷ []))
-    gives counts (1 ∷ 4096 ∷ 2049 ∷ 4096 ∷ 2731 ∷ 4096 ∷ []))
-    -- of 8,193 samples the first, the second and the last index
-    ∷ (counts (map (countedIndex 8193) (0 ∷ 1 ∷ 2730 ∷ []))
-    gives counts (0 ∷ 3 ∷ 8190 ∷ []))
+    -- "N becomes exactly the lesser of t and 4,096": t of 1, 4,095, 4,096, 4,097, 8,192, 8,193 and 8192 × 8192
+    ∷ (counts (map counted (1 ∷ 4095 ∷ 4096 ∷ 4097 ∷ 8192 ∷ 8193 ∷ 67108864 ∷ []))
+    gives counts (1 ∷ 4095 ∷ 4096 ∷ 4096 ∷ 4096 ∷ 4096 ∷ 4096 ∷ []))
+    -- "sample i, from 0, has index i × t / N rounded down": the second and the last sample of each of these t but the first
+    ∷ (counts (map (λ t. countedIndex t 1) (4095 ∷ 4096 ∷ 4097 ∷ 8192 ∷ 8193 ∷ 67108864 ∷ []))
+    gives counts (1 ∷ 1 ∷ 1 ∷ 2 ∷ 2 ∷ 16384 ∷ []))
+    ∷ (counts (map (λ t. countedIndex t (counted t - 1)) (4095 ∷ 4096 ∷ 4097 ∷ 8192 ∷ 8193 ∷ 67108864 ∷ []))
+    gives counts (4094 ∷ 4095 ∷ 4095 ∷ 8190 ∷ 8190 ∷ 67092480 ∷ []))
+    -- of 5,000 samples, where the rises are 1 and 2: the first six
+    ∷ (counts (map (countedIndex 5000) indices)
+    gives counts (0 ∷ 1 ∷ 2 ∷ 3 ∷ 4 ∷ 6 ∷ []))
     -- a plane's estimate
     ∷ (count (planeEstimate 3 plane) gives count 862)
     ∷ (count (planeEstimate 2 (pos 3 ∷ pos 3 ∷ pos 3 ∷ pos 5 ∷ [])) gives count 384)
     ∷ []
 
+-- a picture of one colour
+abbrev pub oneColour : ℕ → Planes
+oneColour t = triple (replicate t (pos 10)) (replicate t (pos 200)) (replicate t (pos 60))
+
+-- "A picture of 4,097 pixels is counted at only 2,049 of them": by 01's rule the second of these has an estimate of 2112
+unfoldable pub countedCases : List Case
+countedCases =
+    (count (pictureEstimate 64 (oneColour 4096)) gives count 14589)
+    ∷ (count (pictureEstimate 17 (oneColour 4097)) gives count 14589)
+    ∷ []
+
 abbrev pub FilterCasesHold : Type 0
-FilterCasesHold = Hold filterCases
+FilterCasesHold = Hold filterCases × Hold countedCases

@@ -15,7 +15,7 @@ use Rattle.stage.specs.Search.{Scratch, clearedScratch, scratchTests, estimated
 use Rattle.stage.proofs.Answers.{Decides, decides}
 use Rattle.stage.proofs.Triples.{each-plane}
 use Rattle.search.specs.Calls.{scratchOf}
-use Rattle.search.proofs.Calls.{success, Passed, passed, Work, room, counted-ready, inside, ready, answered, left}
+use Rattle.search.proofs.Calls.{success, Passed, passed, Work, room, inside, ready, answered, left}
 use Rattle.search.proofs.estimate.Statement.{statement}
 use Rattle.search.proofs.estimate.Tie as tie
 
@@ -125,9 +125,7 @@ clear-planes-requires : tie.Need-clear-planes-requires
 clear-planes-requires c κs = search needs
 
 found-requires : tie.Need-found-requires
-found-requires c κs =
-    let y = c .before .before .before .before .before .before .before .before .before .before .before .before in
-    counted-ready (work (lent-from (y .before .before .before .before .before)) .past)
+found-requires c κs = search needs
 
 returns-3 : tie.Need-returns-3
 unfolding estimateCall

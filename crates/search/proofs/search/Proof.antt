@@ -17,7 +17,7 @@ use Rattle.stage.specs.Search.{Lent, clearedScratch, scratchTests, searchTests,
 use Rattle.stage.proofs.Answers.{holds-append, Decides, decides}
 use Rattle.stage.proofs.Triples.{each-plane}
 use Rattle.search.specs.Calls.{lent}
-use Rattle.search.proofs.Calls.{refusal-then, success, Passed, passed, Work, room, counted-ready, inside, ready, answered, won, left}
+use Rattle.search.proofs.Calls.{refusal-then, success, Passed, passed, Work, room, inside, ready, answered, won, left}
 use Rattle.search.proofs.search.Statement.{statement}
 use Rattle.search.proofs.search.Tie as tie
 
@@ -149,9 +149,7 @@ clear-planes-requires : tie.Need-clear-planes-requires
 clear-planes-requires c κs = search needs
 
 found-requires : tie.Need-found-requires
-found-requires c κs =
-    let y = c .before .before .before .before .before .before .before .before .before .before .before .before .before .before in
-    counted-ready (work (lent-from (y .before .before .before .before .before)) .past)
+found-requires c κs = search needs
 
 returns-3 : tie.Need-returns-3
 unfolding searchCall
