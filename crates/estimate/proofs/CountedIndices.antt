@@ -14,8 +14,8 @@ use Rattle.stage.specs.Estimate.{countedIndex}
 use Rattle.stage.proofs.Counting.{counted-rule}
 use Rattle.estimate.specs.Counting.{Holds, Occurrences}
 
--- after j of n turns: j × s, the next index in 4096ths, of it what is left by rows of w, and of the numbers f 0, .. f (j − 1) the list
--- and how often each occurs, by counters as many as l₀
+-- after j of n turns: the next index i and its column x, in 4096ths, where s is the distance of two samples; the numbers f 0, .. f (j − 1)
+-- in a list; and how often each of them occurs, in as many counters as at the start, l₀
 pub record CountedTo (f : ℕ → ℕ) (s w n : ℕ) (l₀ : List ℕ) (j i x : ℕ) (bins l : List ℕ) : Type 0 where
   pub turns : j ≤ n
   pub index : i ≡ j * s
@@ -25,7 +25,7 @@ pub record CountedTo (f : ℕ → ℕ) (s w n : ℕ) (l₀ : List ℕ) (j i x : 
   pub found : Holds f j bins
   pub counts : Occurrences f j l
 
--- the index: of few samples each is counted, of many N is 4,096
+-- the next index: of few samples each is counted, of many N is 4,096
 scaled : (t j : ℕ) → 1 ≤ t → j * max t 4096 / 4096 ≡ countedIndex t j
 unfolding countedIndex
 scaled t j h = cases (leb t 4096)

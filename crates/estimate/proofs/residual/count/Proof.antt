@@ -47,7 +47,7 @@ turn c =
       room = omega (arith, counted-most t);
     }
 
--- its counter is there
+-- its counter's number, and that there is such a counter
 most : (c : tie.After-bin Inv-loop μ-loop) → c .bin .result ≤ 2 * start (c .before) .args .d
 most c =
     let s = start (c .before) in

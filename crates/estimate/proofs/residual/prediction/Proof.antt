@@ -1,9 +1,9 @@
 use mathlib.Core.Path.{_≡_, sym, ap, _∙_}
+use mathlib.Core.Bool.{Bool, false}
 use mathlib.Core.Logic.{⊎-elim}
 use Prim.Native.Nat.{ℕ, _-_, _%_, _≤_, _<_}
 use native.Mathlib.Omega.{arith}
 use native.Mathlib.Nat.{mod-self, eq-or-lt-of-le}
-use mathlib.Core.Bool.{Bool, false}
 use lib.Dec.{ltb, eqb}
 use borrow.Author.Tests.{ltb-false, eqb-false, eq-eqb, ne-eqb}
 use denote.Ref.{now}
@@ -19,7 +19,7 @@ use Rattle.estimate.proofs.residual.prediction.Tie as tie
 below : (i w : ℕ) {top : Bool} → top ≡ ltb i w → top ≡ false → w ≤ i
 below i w e f = ltb-false i w (sym e ∙ f)
 
--- and beyond the first column too, the one above-left
+-- and beyond the first column the one above-left is
 above-left : (i w : ℕ) → w ≤ i → eqb (i % w) 0 ≡ false → w < i
 above-left i w h e = ⊎-elim (λ (p : w ≡ i). absurd (eqb-false (i % w) 0 e (ap (λ (n : ℕ). n % w) (sym p) ∙ mod-self w))) (λ p. p) (eq-or-lt-of-le h)
 
