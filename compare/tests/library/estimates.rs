@@ -82,8 +82,8 @@ fn every_depth() {
     });
 }
 
-/// More samples than are counted: those just at the limits, widths that divide neither their number nor 4,096, and narrow planes,
-/// where the next counted sample is a whole row further or more.
+/// More samples than are counted: those just at the limits, widths that do not divide 4,096, and
+/// narrow planes, where the next counted sample is a whole row further or more.
 #[test]
 fn larger_pictures() {
     const SIZES: [(u32, u32); 17] = [
