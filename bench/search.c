@@ -49,7 +49,7 @@ INLINE int32_t med(int32_t a, int32_t e, int32_t c)
     return sum > most ? most : sum;
 }
 
-/* Counts the residuals, then adds up and clears the counters that were used. Gives the estimate; *samples becomes N. */
+/* Counts the residuals, then adds up and clears the counters. Gives the estimate; *samples becomes N. */
 static uint32_t estimate_plane(const setting *s, const int32_t *plane, uint32_t *counters, uint32_t *samples)
 {
     uint32_t used[MOST_COUNTED], sum = 0;
@@ -72,11 +72,19 @@ static uint32_t estimate_plane(const setting *s, const int32_t *plane, uint32_t 
         x += across;
         x = x >= row ? x - row : x;
     }
-    for (uint32_t i = 0; i < n; i++) {
-        uint32_t c = counters[used[i]];
-        sum += c * logarithms[c];   /* a counter met before is 0 by now */
-        counters[used[i]] = 0;
-    }
+    /* over all counters where they are fewer, else over those that were used; one met before is 0 by now */
+    uint32_t all = 2 * (uint32_t)zero + 1;
+    if (all < n)
+        for (uint32_t k = 0; k < all; k++) {
+            sum += counters[k] * logarithms[counters[k]];
+            counters[k] = 0;
+        }
+    else
+        for (uint32_t j = 0; j < n; j++) {
+            uint32_t c = counters[used[j]];
+            sum += c * logarithms[c];
+            counters[used[j]] = 0;
+        }
     *samples = n;
     return n * logarithms[n] - sum;
 }

@@ -1,4 +1,5 @@
 pub mod Occurrences
+pub mod Sums
 pub mod Bins
 pub mod CountedIndices
 pub mod Estimates

@@ -9,7 +9,7 @@ use lib.ListN.{length, getD}
 use Rattle.integers.specs.Parts.{posPart}
 use Rattle.integers.specs.Lists.{AllIn}
 use Rattle.stage.specs.Logarithm.{Logarithms}
-use Rattle.stage.specs.Estimate.{occurrences}
+use Rattle.stage.specs.Estimate.{occurrences, logSum}
 
 -- the samples lie in a range that is at most d wide
 pub record RangeWithin (d : ℕ) (a : List ℤ) : Type 0 where
@@ -59,6 +59,13 @@ pub record Occurrences (f : ℕ → ℕ) (n : ℕ) (l : List ℕ) : Type 0 where
 -- The same, but zero again where x occurs among f 0, .. f (m − 1).
 pub record Remaining (f : ℕ → ℕ) (n m : ℕ) (l : List ℕ) : Type 0 where
   pub each : (x : ℕ) → entry l x ≡ cond (eqb (occurrences eqb f m x) 0) (occurrences eqb f n x) 0
+
+-- m counters that can be summed; all behind them are zero
+pub record Summable (m : ℕ) (l : List ℕ) : Type 0 where
+  pub inside : m ≤ length l
+  pub each : (x : ℕ) → entry l x ≤ 4096
+  pub behind : (x : ℕ) → m ≤ x → entry l x ≡ 0
+  pub most : logSum l ≤ 3145728
 
 -- enough counters for residuals within −d .. d, all zero
 pub record Counters (d : ℕ) (l : List ℕ) : Type 0 where

@@ -13,7 +13,7 @@ pub fn counted(t: usize) -> u32
     if t < 4096 { t as u32 } else { 4096 }
 }
 
-// A plane's estimate. The counters are zero before and after, and only those that were counted are visited: no cost grows with d.
+// A plane's estimate. The counters are zero before and after, and no cost grows with d.
 pub fn plane_estimate(
     plane: &[i32],
     width: usize,
@@ -27,6 +27,7 @@ pub fn plane_estimate(
     let n = counted(plane.len());
     let mut bins: [u32; 4096] = [0; 4096];
     residual::count(plane, width, d, n as usize, &mut bins, counters);
-    let sum = histogram::sum_and_clear(&bins, n as usize, counters, table);
+    let all = 2 * (d as usize) + 1;
+    let sum = histogram::sum_and_clear(&bins, n as usize, all, counters, table);
     n * logs::log(table, n) - sum
 }

@@ -1,6 +1,5 @@
-use Prim.Native.Nat.{ℕ, _*_}
+use Prim.Native.Nat.{ℕ, _+_, _*_}
 use native.Mathlib.Omega.{arith}
-use lib.ListN.{length}
 use denote.Ref.{now}
 use borrow.Author.Needs.{needs}
 use Rattle.stage.specs.Estimate.{planeEstimate}
@@ -20,8 +19,9 @@ n c = c .before .before .before .counted .result
 size : (c : tie.After-count) → Size (n c)
 size c = plane-size (start c .pre .plane) (c .before .before .before .counted .ensures) (c .count .ensures .0)
 
-bins-inside : (c : tie.After-count) → AllBelow (length (now (start c .args .counters))) (n c) (c .count .last .1 .1 .1 .1 .0)
-bins-inside c = plane-bins (start c .pre .plane) (c .before .before .before .counted .ensures) (c .count .ensures .0) _ (start c .pre .counters .enough)
+-- by counters up to 2 × d
+bins-inside : (c : tie.After-count) → AllBelow (2 * start c .args .d + 1) (n c) (c .count .last .1 .1 .1 .1 .0)
+bins-inside c = plane-bins (start c .pre .plane) (c .before .before .before .counted .ensures) (c .count .ensures .0) _ (omega arith)
 
 abbrev counted : tie.After-log → tie.After-count
 counted c = c .before .before .before .before .before .before .before .before
@@ -42,13 +42,20 @@ cast-count c = search needs
 count-requires : tie.Need-count-requires
 count-requires c κs = search needs
 
+mul-all : tie.Need-mul-all
+mul-all c = record { fits = omega (arith, c .before .before .before .before .before .before .before .pre .plane .small) }
+
+add-all : tie.Need-add-all
+add-all c = record { fits = omega (arith, c .before .before .before .before .before .before .before .pre .plane .small) }
+
 cast-sum-and-clear : tie.Need-cast-sum-and-clear
 cast-sum-and-clear c = search needs
 
 sum-and-clear-requires : tie.Need-sum-and-clear-requires
 sum-and-clear-requires c κs =
     let b = c .before .before .before .before in
-    (size b .most, (rw (b .count .kept .1 .1 .1 .1 .1 .0) (bins-inside b), (occurrences-listed (b .count .ensures .0) (b .count .ensures .1), start b .pre .logarithms)))
+    let long = b .count .kept .1 .1 .1 .1 .1 .0 in
+    ((size b .most, omega (arith, long, start b .pre .counters .enough)), (bins-inside b, (occurrences-listed (b .count .ensures .0) (b .count .ensures .1), start b .pre .logarithms)))
 
 log-requires : tie.Need-log-requires
 log-requires c κs =
@@ -69,7 +76,7 @@ returns c =
     record {
       value = e .value;
       bound = omega arith;
-      counters = record { enough = omega (arith, start b .pre .counters .enough, k .sum-and-clear .kept .1 .1 .0, b .count .kept .1 .1 .1 .1 .1 .0); zero = k .sum-and-clear .ensures .1 };
+      counters = record { enough = omega (arith, start b .pre .counters .enough, k .sum-and-clear .kept .1 .1 .1 .0, b .count .kept .1 .1 .1 .1 .1 .0); zero = k .sum-and-clear .ensures .1 };
     }
 
 pub plane-estimate-spec : {M : Type 1} → statement M
@@ -79,6 +86,8 @@ plane-estimate-spec =
     counted-requires
     cast-count
     count-requires
+    mul-all
+    add-all
     cast-sum-and-clear
     sum-and-clear-requires
     log-requires
