@@ -53,6 +53,21 @@ fn windows() {
     assert_eq!(filtered(&[5, -7, 0], 1, 3, 0), [5, -7, 0]);
 }
 
+/// Planes of one number each, within the ranges of YCoCg-R at depth 16. The last step back filters plane 3 as it then is,
+/// and doubled and with the weights added the sum of a whole window there exceeds 29 signed bits.
+#[test]
+fn largest_window() {
+    let planes = [-65535, -98302, 147453];
+    for (number, (low, high)) in planes.into_iter().zip(ranges(1, 16)) {
+        assert!((low..=high).contains(&number));
+    }
+    let [_, _, plane] = undo(1, 3, 3, &[0; 4], planes.map(|number| vec![number; 9]));
+    assert_eq!(plane, [229_372; 9]);
+    let (sum, weights) = window(&plane, 3, 3, 11, 1, 1);
+    assert_eq!(2 * sum + weights, 473_424_840);
+    assert!(2 * sum + weights >= 1 << 28);
+}
+
 #[test]
 fn predictions() {
     assert_eq!([med(10, 20, 5), med(10, 20, 25), med(10, 20, 15)], [20, 10, 15]);

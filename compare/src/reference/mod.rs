@@ -16,7 +16,7 @@ mod cases;
 
 pub use calls::{estimate, forward, inverse, search, Estimated, Found, Scratch, Settings};
 pub use entropy::{counted_indices, logarithm, med, plane_estimate, residual};
-pub use filter::{filtered, filtered_at};
+pub use filter::{filtered, filtered_at, window};
 pub use pixmap::{pixmap_header, pixmap_planes, Header};
 pub use report::{report, NAMES};
 pub use transform::{counters_needed, places, ranges, run, undo, TRANSFORMS};

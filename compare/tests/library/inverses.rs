@@ -2,7 +2,7 @@
 
 use crate::random::{self, each_round, Random};
 use crate::same::Case;
-use compare::reference::{ranges, Settings, TRANSFORMS};
+use compare::reference::{places, ranges, undo, window, Settings, TRANSFORMS};
 
 /// A case whose planes some picture goes to.
 fn reached(random: &mut Random, origin: &str) -> Case {
@@ -95,7 +95,7 @@ fn range_ends_of_one_pixel() {
             for depth in 2..=16 {
                 let settings = Settings { width: 1, height: 1, depth, transform };
                 let ends = ranges(transform, depth).map(|(low, high)| [low - 1, low, 0, high, high + 1]);
-                for nulls in 0..1u32 << compare::reference::places(transform) {
+                for nulls in 0..1u32 << places(transform) {
                     let mut case = random::case_of(random, settings, origin);
                     for (place, choice) in case.choices.iter_mut().enumerate() {
                         *choice = if nulls >> place & 1 == 1 { 12 } else { 0 };
@@ -111,4 +111,44 @@ fn range_ends_of_one_pixel() {
             }
         }
     });
+}
+
+/// One number for each plane, at the ends of the ranges: all eight sets.
+fn corners(transform: u32, depth: u32) -> [[i64; 3]; 8] {
+    let ends = ranges(transform, depth).map(|(low, high)| [low, high]);
+    [0, 1, 2, 3, 4, 5, 6, 7].map(|code| [0, 1, 2].map(|plane| ends[plane][code >> plane & 1]))
+}
+
+/// Planes of one number each, at the ends of their ranges at depth 16, with every filter and every set of null places:
+/// windows with large sums. Lent or undone, no such sum needs more than 32 signed bits, doubled and with the
+/// weights added.
+#[test]
+fn large_window_sums() {
+    each_round("large_window_sums", 1, |random, origin| {
+        for transform in 0..TRANSFORMS {
+            for nulls in 0..1u32 << places(transform) {
+                for filter in 0..12 {
+                    let settings = Settings { width: 4, height: 3, depth: 16, transform };
+                    let mut case = random::case_of(random, settings, origin);
+                    for (place, choice) in case.choices.iter_mut().enumerate() {
+                        *choice = if nulls >> place & 1 == 1 { 12 } else { filter };
+                    }
+                    for numbers in corners(transform, 16) {
+                        case.planes = numbers.map(|number| vec![number as i32; 12]);
+                        case.inverse();
+                        sums_fit(&case, numbers);
+                    }
+                }
+            }
+        }
+    });
+}
+
+fn sums_fit(case: &Case, numbers: [i64; 3]) {
+    let lent = numbers.map(|number| vec![number; 12]);
+    let undone = undo(case.settings.transform, 4, 3, &case.choices, lent.clone());
+    for plane in lent.iter().chain(&undone) {
+        let (sum, weights) = window(plane, 4, 3, 11, 1, 1);
+        assert!(i32::try_from(2 * sum + weights).is_ok(), "{case}");
+    }
 }

@@ -13,7 +13,7 @@ pub struct Centre {
 // Indexed by filter number less one.
 const CENTRE_WEIGHTS: [u32; 11] = [1, 2, 4, 8, 16, 32, 64, 128, 256, 512, 1024];
 
-// The least whole number above 2^35 / d.
+// The least whole number above 2^35 / d, found once for a pass over rows: the 64 bits are the dividend's.
 fn reciprocal_of(d: u32) -> u32
     requires { ⌜ 9 ≤ d ⌝ }
     ensures { λ r. ⌜ Reciprocal d r ⌝ }
@@ -33,7 +33,8 @@ pub fn centre_at(entry: usize) -> Centre
     }
 }
 
-// n / d in fixed point with three fraction bits, without a division
+// n / d in fixed point with three fraction bits, without a division. The product has 64 bits because it divides; sums of samples, n among
+// them, have 32.
 pub fn fixed_quotient(n: u32, d: u32, reciprocal: u32) -> u32
     requires { ⌜ ReciprocalDivision n d reciprocal ⌝ }
     ensures { λ r. ⌜ r / 8 ≡ n / d ⌝ }

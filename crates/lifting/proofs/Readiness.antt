@@ -5,22 +5,18 @@ use Prim.Native.Nat.{ℕ, suc, _+_, _-_, _≤_}
 use native.Mathlib.Omega.{arith}
 use lib.ListN.{length, take, drop}
 use lib.Seq.{take-add}
-use Rattle.integers.specs.Lists.{AllIn}
 use Rattle.integers.specs.Slices.{slice}
 use Rattle.integers.proofs.Slices.{slice-front, slice-back}
 use Rattle.stage.specs.declared.Range.{Range}
 use Rattle.stage.specs.declared.Settings.{Settings}
-use Rattle.stage.specs.declared.Plane.{Plane}
-use Rattle.stage.specs.declared.Plane.the-variants.{C1, C2, C3}
-use Rattle.stage.specs.Planes.{Triple, Planes, get}
+use Rattle.stage.specs.Planes.{Triple, Planes}
 use Rattle.stage.specs.Steps.{Step, steps, run, undo}
 use Rattle.stage.specs.Ranges.{ranges, sampleRanges, finishedRanges, bounded, InRanges}
 use Rattle.stage.specs.Transform.{HasSize, Picture, setup}
-use Rattle.stage.proofs.Triples.{each-plane}
 use Rattle.stage.proofs.Reversal.{run-length, undo-length}
 use Rattle.stage.proofs.StepLists.{ranges-append, run-back, undo-part}
-use Rattle.stage.proofs.StepRanges.{run-in, take-inside, in-inside}
-use Rattle.stage.proofs.Numbers.{finished-within, met-back}
+use Rattle.stage.proofs.StepRanges.{setup-keeps, run-in, take-inside, in-inside}
+use Rattle.stage.proofs.Numbers.{finished-within, bounded-in, met-back}
 use Rattle.lifting.specs.Steps.{Ready, StepsFit, RunReady, UndoReady, AtStep}
 
 pub picture-first : {s : Settings} {p : Planes} → Picture s p → AtStep s 0 p
@@ -36,11 +32,8 @@ at-next {s} {i} {q} z j φ p h e =
     sym (ranges-append (take i l) m (sampleRanges s)) ∙ ap (λ (x : List Step). ranges x (sampleRanges s)) (sym (take-add i (j - i) l) ∙ ap (λ (x : ℕ). take x l) n) in
     rw e (record {
       size = λ c. run-length (setup s φ) m q c ∙ z .size c;
-      inside = subst (λ (x : Triple Range). InRanges x (run (setup s φ) m q)) r (run-in (setup s φ) (λ x. refl) m _ q (z .inside));
+      inside = subst (λ (x : Triple Range). InRanges x (run (setup s φ) m q)) r (run-in (setup s φ) m _ q (setup-keeps s φ _) (z .inside));
     })
-
-small : (p : Planes) → InRanges bounded p → (c : Plane) → AllIn 524288 524288 (get p c)
-small p h = each-plane (λ (c : Plane). AllIn 524288 524288 (get p c)) (h C1) (h C2) (h C3)
 
 module _ {s : Settings} (deep : s .depth ≤ 16) where
   -- within the ranges of finished planes, which hold those on the way
@@ -48,7 +41,7 @@ module _ {s : Settings} (deep : s .depth ≤ 16) where
   at-finished {k} {q} z = in-inside _ (finishedRanges s) (take-inside (steps (s .transform)) k (sampleRanges s)) q (z .inside)
 
   pub at-ready : {k : ℕ} {q : Planes} → AtStep s k q → Ready s q
-  at-ready {k} {q} z = record { size = z .size; small = small q (in-inside (finishedRanges s) bounded (finished-within s deep) q (at-finished z)) }
+  at-ready {k} {q} z = record { size = z .size; small = bounded-in q (in-inside (finishedRanges s) bounded (finished-within s deep) q (at-finished z)) }
 
   module _ {φ : List ℕ} {from to : ℕ} (fit : StepsFit s φ from to) {q : Planes} (z : AtStep s from q) where
     between : (k : ℕ) → from ≤ k → Ready s (run (setup s φ) (slice (steps (s .transform)) from k) q)
@@ -71,7 +64,7 @@ module _ {s : Settings} (deep : s .depth ≤ 16) where
     undone : (k : ℕ) → Ready s (undo (setup s φ) (drop k (steps (s .transform))) q)
     undone k = record {
       size = λ c. undo-length (setup s φ) (drop k (steps (s .transform))) q c ∙ size c;
-      small = small _ (met-back s k φ q deep inside);
+      small = bounded-in _ (met-back s (setup s φ) k q deep (setup-keeps s φ _) inside);
     }
 
     pub ready-inverse : UndoReady s φ 0 n q

@@ -5,6 +5,7 @@ pub mod Means
 pub mod StepRanges
 pub mod RangeTable
 pub mod Numbers
+pub mod WindowSums
 pub mod Answers
 pub mod Validity
 pub mod Choices

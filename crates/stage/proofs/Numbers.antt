@@ -1,27 +1,19 @@
--- Every number that the calls meet lies within ±2^19, and the sums of a window fit 32 signed bits.
-use mathlib.Core.Path.{refl}
-use mathlib.Core.Bool.{Bool, true, false, cond, _&&_}
-use Prim.Native.Nat.{ℕ, zero, suc, _+_, _≤_, _^_}
-use native.Mathlib.Nat.{mul-le-mul-right}
+-- Every number that the calls meet lies within ±2^19.
+use mathlib.Core.Bool.{Bool, _&&_}
+use Prim.Native.Nat.{ℕ, zero, suc, _^_, _≤_}
 use native.Mathlib.Omega.{arith}
-use lib.Dec.{T, leb, leb→le, eqb}
+use lib.Dec.{T, leb, leb→le}
 use lib.Pow.{pow-mono}
-use lib.IntN.{pos, _+ℤ_, _*ℤ_}
 use lib.ListN.{take, drop}
-use Rattle.integers.specs.Parts.{In}
+use Rattle.integers.specs.Lists.{AllIn}
 use Rattle.integers.proofs.Booleans.{and-iff}
-use Rattle.integers.proofs.Parts.{add-difference, scale-parts}
-use Rattle.integers.proofs.Ranges.{in-fits}
 use Rattle.stage.specs.Settings.{Settings, settingsOf}
-use Rattle.stage.specs.Planes.{Plane, C1, C2, C3, Triple, get}
-use Rattle.stage.specs.Filter.{inside, weight, weightSum, weightedSum, windowIndex, windowSample}
+use Rattle.stage.specs.Planes.{Plane, C1, C2, C3, Triple, Planes, get}
 use Rattle.stage.specs.Steps.{steps}
-use Rattle.stage.specs.Ranges.{Range, ranges, undoneRanges, sampleRange, sampleRanges, finishedRanges, bounded, extent, widest}
-use Rattle.stage.specs.Transform.{setup}
-use Rattle.stage.specs.Theorems.{MetForward, MetBack, WindowFits}
+use Rattle.stage.specs.Ranges.{Range, Inside, AllInside, ranges, undoneRanges, sampleRange, sampleRanges, finishedRanges, bounded, extent, widest, InRanges}
+use Rattle.stage.specs.Theorems.{MetForward, MetBack}
 use Rattle.stage.proofs.Triples.{each-plane, each-test}
-use Rattle.stage.proofs.Means.{weightedSum-in}
-use Rattle.stage.proofs.StepRanges.{Inside, AllInside, inside-trans, take-inside, drop-inside, ranges-inside, undoneRanges-inside, in-inside, run-in, undo-in}
+use Rattle.stage.proofs.StepRanges.{inside-trans, ranges-grow, keeps-wider, take-inside, drop-inside, ranges-inside, undoneRanges-inside, in-inside, run-in, undo-in}
 
 -- ---- ranges within a range, as a test that computes
 insideTest : Range → Range → Bool
@@ -88,47 +80,24 @@ at-deepest (suc (suc (suc (suc t)))) = deepest-by (suc (suc (suc (suc t)))) tt t
 pub finished-within : (s : Settings) → s .depth ≤ 16 → AllInside (finishedRanges s) bounded
 finished-within s h = inside-trans _ (finished (s .transform)) _ (finished-inside s h) (at-deepest (s .transform) .finished-bounded)
 
+pub bounded-in : (p : Planes) → InRanges bounded p → (c : Plane) → AllIn (2 ^ 19) (2 ^ 19) (get p c)
+bounded-in p h = each-plane (λ (c : Plane). AllIn (2 ^ 19) (2 ^ 19) (get p c)) (h C1) (h C2) (h C3)
+
 pub met-forward : MetForward
-met-forward s k φ p d i =
+met-forward s σ n p d k i =
     let l = steps (s .transform) in
-    in-inside (ranges (take k l) (sampleRanges s)) bounded
-    (inside-trans _ (finishedRanges s) _ (take-inside l k (sampleRanges s)) (finished-within s d))
-    _ (run-in (setup s φ) (λ x. refl) (take k l) (sampleRanges s) p i)
+    in-inside (ranges (take n l) (sampleRanges s)) bounded
+    (inside-trans _ (finishedRanges s) _ (take-inside l n (sampleRanges s)) (finished-within s d))
+    _ (run-in σ (take n l) (sampleRanges s) p k i)
 
 pub met-back : MetBack
-met-back s k φ q d i =
+met-back s σ n q d k i =
     let l = steps (s .transform) in
-    in-inside (undoneRanges (drop k l) (finishedRanges s)) bounded
-    (inside-trans _ (undoneRanges l (finishedRanges s)) _ (drop-inside l k (finishedRanges s))
+    in-inside (undoneRanges (drop n l) (finishedRanges s)) bounded
+    (inside-trans _ (undoneRanges l (finishedRanges s)) _ (drop-inside l n (finishedRanges s))
     (inside-trans _ (undone (s .transform)) _
     (undoneRanges-inside l (finishedRanges s) (finished (s .transform)) (finished-inside s d)) (at-deepest (s .transform) .undone-bounded)))
-    _ (undo-in (setup s φ) (λ x. refl) (drop k l) (finishedRanges s) q i)
-
--- ---- a window's sums
-module _ (w h centre i : ℕ) where
-  weight-most : (k : ℕ) → weight w h centre i k ≤ cond (eqb k 4) centre 1
-  weight-most k = pick (inside w h i k)
-    where
-      pick : (b : Bool) → cond b (cond (eqb k 4) centre 1) 0 ≤ cond (eqb k 4) centre 1
-      pick true = omega arith
-      pick false = omega arith
-
-  pub weightSum-most : weightSum (weight w h centre i) 9 ≤ centre + 8
-  weightSum-most =
-      omega (arith, weight-most 0, weight-most 1, weight-most 2, weight-most 3, weight-most 4, weight-most 5, weight-most 6, weight-most 7, weight-most 8)
-
-pub window-fits : WindowFits
-window-fits w h centre i a c k =
-    let f = weight w h centre i in
-    let W = weightSum f 9 in
-    let S = weightedSum f (windowSample w a i) 9 in
-    let s = weightedSum-in f (windowSample w a i) (λ j. k .each (windowIndex w i j)) 9 in
-    let m = weightSum-most w h centre i in
-    let o = mul-le-mul-right {m = W} {n = 1032} (2 ^ 19) (omega arith) in
-    let p = scale-parts 2 S in
-    let e = add-difference (pos 2 *ℤ S) (pos W) in
-    let g : In 1082130432 1082131464 (pos 2 *ℤ S +ℤ pos W) = omega arith in
-    in-fits g (leb→le _ _ tt) (leb→le _ _ tt)
+    _ (undo-in σ (drop n l) (finishedRanges s) q (keeps-wider σ (sampleRanges s) _ (ranges-grow l (sampleRanges s)) k) i)
 
 -- ---- D, the widest range
 pub extent-widest : (s : Settings) (c : Plane) → extent (get (finishedRanges s) c) ≤ widest s

@@ -13,7 +13,7 @@ use Rattle.stage.specs.Ranges.{Range, ranges, sampleRanges, finishedRang
 use Rattle.stage.specs.Transform.{setup, transformed}
 use Rattle.stage.specs.Demand3.{GoesTo}
 use Rattle.stage.specs.Theorems.{RangesAreTable, SecondStepRange, StepsKeepRanges, SecondStepSamples, WithinTable}
-use Rattle.stage.proofs.StepRanges.{run-in}
+use Rattle.stage.proofs.StepRanges.{setup-keeps, run-in}
 
 range-is : (a b : ℕ) (r : Range) → (a ≡ r .below) × (b ≡ r .above) → r ≡ record { below = a; above = b }
 range-is a b r e = sym (λ i. record { below = e .0 i; above = e .1 i })
@@ -58,18 +58,19 @@ second-step-range s h =
 
 -- ---- of samples
 pub steps-keep-ranges : StepsKeepRanges
-steps-keep-ranges s k φ p h = run-in (setup s φ) (λ x. refl) (take k (steps (s .transform))) (sampleRanges s) p (h .samples)
+steps-keep-ranges s σ n p k h = run-in σ (take n (steps (s .transform))) (sampleRanges s) p k h
 
 pub second-step-samples : SecondStepSamples
 second-step-samples s φ p b h =
     subst (λ (r : Range). AllIn (r .below) (r .above) (run (setup s φ) (take 2 YCoCg-R) p .c3)) (second-step-range s b)
-    (run-in (setup s φ) (λ x. refl) (take 2 YCoCg-R) (sampleRanges s) p (h .samples) C3)
+    (run-in (setup s φ) (take 2 YCoCg-R) (sampleRanges s) p (setup-keeps s φ _) (h .samples) C3)
 
 -- what a picture goes to lies within the ranges of finished planes
 pub goes-within : (s : Settings) (φ : List ℕ) (p q : Planes) → GoesTo s φ p q → InRanges (finishedRanges s) q
 unfolding transformed
 goes-within s φ p q g =
-    subst (InRanges (finishedRanges s)) (g .goes) (run-in (setup s φ) (λ x. refl) (steps (s .transform)) (sampleRanges s) p (g .picture .samples))
+    subst (InRanges (finishedRanges s)) (g .goes)
+    (run-in (setup s φ) (steps (s .transform)) (sampleRanges s) p (setup-keeps s φ _) (g .picture .samples))
 
 pub within-table : WithinTable
 within-table s φ p q b g = subst (λ (r : Triple Range). InRanges r q) (ranges-are-table s b) (goes-within s φ p q g)

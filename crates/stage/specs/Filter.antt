@@ -41,9 +41,12 @@ abbrev pub weightedSum : (ℕ → ℕ) → (ℕ → ℤ) → ℕ → ℤ
 weightedSum f g zero = pos 0
 weightedSum f g (suc n) = weightedSum f g n +ℤ pos (f n) *ℤ g n
 
--- (2 × S + W) / (2 × W) rounded down, also below zero
+-- 2 × S + W, and (2 × S + W) / (2 × W) rounded down, also below zero
+abbrev pub roundedSum : (S : ℤ) (W : ℕ) → ℤ
+roundedSum s n = pos 2 *ℤ s +ℤ pos n
+
 abbrev pub roundedMean : (S : ℤ) (W : ℕ) → ℤ
-roundedMean s n = floorDiv (pos 2 *ℤ s +ℤ pos n) (2 * n)
+roundedMean s n = floorDiv (roundedSum s n) (2 * n)
 
 -- the weighted mean of the window, for a centre weight
 unfoldable pub mean : (w h centre : ℕ) (a : List ℤ) (i : ℕ) → ℤ

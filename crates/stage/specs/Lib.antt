@@ -21,4 +21,5 @@ pub mod Equations
 pub mod Demand3
 pub mod NullSteps
 pub mod Theorems
+pub mod WindowSums
 pub mod EstimateTheorems

@@ -3,13 +3,14 @@
 -- depth; M, H and q are 01's numbers.
 use mathlib.Core.Bool.{Bool, _&&_}
 use mathlib.Core.List.{List, [], _∷_}
-use Prim.Native.Nat.{ℕ, _+_, _*_, _-_, _/_, _^_, max}
+use Prim.Native.Nat.{ℕ, _+_, _*_, _-_, _/_, _^_, _≤_, max}
 use lib.IntN.{ℤ}
 pub use Rattle.stage.specs.declared.Range.{Range}
+use Rattle.integers.specs.Parts.{In}
 use Rattle.integers.specs.Lists.{AllIn, allWithin}
 use Rattle.stage.specs.Settings.{Settings}
 use Rattle.stage.specs.Planes.{Plane, Triple, Planes, triple, get, put}
-use Rattle.stage.specs.Steps.{Step, reversed, Term, Lifting, add, subtract, negate, _ᵈ_, _⊕_, _/2, _/4, steps}
+use Rattle.stage.specs.Steps.{Setup, Step, reversed, Term, Lifting, add, subtract, negate, _ᵈ_, _⊕_, _/2, _/4, steps}
 
 -- a filter keeps its plane's range; sums and floors act on the ends
 abbrev pub termRange : Triple Range → Term → Range
@@ -78,6 +79,22 @@ abbrev pub widest : Settings → ℕ
 widest s =
     let r = finishedRanges s in
     max (extent (r .c1)) (max (extent (r .c2)) (extent (r .c3)))
+
+-- a number lies in a range; range r lies in range R; so for every plane
+abbrev pub Within : Range → ℤ → Type 0
+Within r z = In (r .below) (r .above) z
+
+pub record Inside (r R : Range) : Type 0 where
+  pub low : r .below ≤ R .below
+  pub high : r .above ≤ R .above
+
+abbrev pub AllInside : (r R : Triple Range) → Type 0
+AllInside r R = (c : Plane) → Inside (get r c) (get R c)
+
+-- A setup keeps the ranges from r on: a result in a range that holds its plane's is kept in it. So it is where results are kept as they
+-- are, and where they are kept as 0 to M and every range holds that.
+abbrev pub KeepsRanges : (r : Triple Range) (σ : Setup) → Type 0
+KeepsRanges r σ = (c : Plane) (R : Range) → Inside (get r c) R → (z : ℤ) → Within R z → Within R (σ .keep z)
 
 -- every number of every plane lies in its plane's range, and the same as a test
 abbrev pub InRanges : Triple Range → Planes → Type 0

@@ -5,17 +5,15 @@ use mathlib.Core.Logic.{_⊎_}
 use mathlib.Core.List.{List}
 use Prim.Native.Nat.{ℕ, _*_, _-_, _^_, _≤_, _<_}
 use lib.Dec.{T}
-use lib.IntN.{ℤ, pos, _+ℤ_, _*ℤ_}
+use lib.IntN.{ℤ}
 use lib.ListN.{take, drop, set, getD}
-use mir.Syntax.{w32}
-use mir.Val.{SFits}
 use Rattle.integers.specs.Parts.{In}
 use Rattle.integers.specs.Lists.{AllIn}
 use Rattle.stage.specs.Settings.{Settings}
 use Rattle.stage.specs.Planes.{Planes}
-use Rattle.stage.specs.Filter.{weight, weightSum, weightedSum, windowSample, mean, filtered}
-use Rattle.stage.specs.Steps.{steps, places, run, undo, YCoCg-R}
-use Rattle.stage.specs.Ranges.{ranges, sampleRanges, finishedRanges, depthTable, bounded, InRanges}
+use Rattle.stage.specs.Filter.{mean, filtered}
+use Rattle.stage.specs.Steps.{Setup, steps, places, run, undo, YCoCg-R}
+use Rattle.stage.specs.Ranges.{ranges, sampleRanges, finishedRanges, depthTable, bounded, InRanges, KeepsRanges}
 use Rattle.stage.specs.Transform.{choicesFit, setup, transformed, untransformed, Picture}
 use Rattle.stage.specs.Demand3.{GoesTo}
 use Rattle.stage.specs.Search.{winner, searched}
@@ -44,11 +42,11 @@ SecondStepRange =
     (s : Settings) → 2 ≤ s .depth
     → ranges (take 2 YCoCg-R) (sampleRanges s) .c3 ≡ record { below = 2 ^ (s .depth - 1); above = 3 * 2 ^ (s .depth - 1) - 2 }
 
--- After its first n steps a picture's samples lie within the ranges computed from these steps.
+-- After its first n steps a picture's samples lie within the ranges computed from these steps, in every setup that keeps ranges.
 abbrev pub StepsKeepRanges : Type 0
 StepsKeepRanges =
-    (s : Settings) (n : ℕ) (φ : List ℕ) (p : Planes) → Picture s p
-    → InRanges (ranges (take n (steps (s .transform))) (sampleRanges s)) (run (setup s φ) (take n (steps (s .transform))) p)
+    (s : Settings) (σ : Setup) (n : ℕ) (p : Planes) → KeepsRanges (sampleRanges s) σ → InRanges (sampleRanges s) p
+    → InRanges (ranges (take n (steps (s .transform))) (sampleRanges s)) (run σ (take n (steps (s .transform))) p)
 
 -- "After its second step plane 3 lies in −H to 3H − 2": so do the samples of every picture.
 abbrev pub SecondStepSamples : Type 0
@@ -63,22 +61,16 @@ WithinTable =
     → InRanges (getD (depthTable (s .depth)) (s .transform) (sampleRanges s)) q
 
 -- Every number met lies within ±2^19: before and after each step of a picture's way forward, and of the way back of planes that
--- lie within their ranges.
+-- lie within their ranges, in every setup that keeps ranges.
 abbrev pub MetForward : Type 0
 MetForward =
-    (s : Settings) (n : ℕ) (φ : List ℕ) (p : Planes) → s .depth ≤ 16 → InRanges (sampleRanges s) p
-    → InRanges bounded (run (setup s φ) (take n (steps (s .transform))) p)
+    (s : Settings) (σ : Setup) (n : ℕ) (p : Planes) → s .depth ≤ 16 → KeepsRanges (sampleRanges s) σ → InRanges (sampleRanges s) p
+    → InRanges bounded (run σ (take n (steps (s .transform))) p)
 
 abbrev pub MetBack : Type 0
 MetBack =
-    (s : Settings) (n : ℕ) (φ : List ℕ) (q : Planes) → s .depth ≤ 16 → InRanges (finishedRanges s) q
-    → InRanges bounded (undo (setup s φ) (drop n (steps (s .transform))) q)
-
--- The sum of a window of such numbers, doubled and with W added, fits 32 signed bits.
-abbrev pub WindowFits : Type 0
-WindowFits =
-    (w h centre i : ℕ) (a : List ℤ) → centre ≤ 1024 → AllIn (2 ^ 19) (2 ^ 19) a
-    → SFits w32 (pos 2 *ℤ weightedSum (weight w h centre i) (windowSample w a i) 9 +ℤ pos (weightSum (weight w h centre i) 9))
+    (s : Settings) (σ : Setup) (n : ℕ) (q : Planes) → s .depth ≤ 16 → KeepsRanges (sampleRanges s) σ → InRanges (finishedRanges s) q
+    → InRanges bounded (undo σ (drop n (steps (s .transform))) q)
 
 -- The winner f at place k of filters 0 to n − 1, by the estimates e: it is one of them or the present filter; no filter's estimate is
 -- lower; the present filter stays if it ties; else the lowest number wins.
