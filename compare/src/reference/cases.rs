@@ -54,7 +54,7 @@ fn windows() {
 }
 
 /// Planes of one number each, within the ranges of YCoCg-R at depth 16. The last step back filters plane 3 as it then is,
-/// and doubled and with the weights added the sum of a whole window there exceeds 29 signed bits.
+/// and doubled and with the weights added the sum of a whole window there exceeds 29 signed bits, which end at 2^28 - 1.
 #[test]
 fn largest_window() {
     let planes = [-65535, -98302, 147453];
@@ -65,7 +65,6 @@ fn largest_window() {
     assert_eq!(plane, [229_372; 9]);
     let (sum, weights) = window(&plane, 3, 3, 11, 1, 1);
     assert_eq!(2 * sum + weights, 473_424_840);
-    assert!(2 * sum + weights >= 1 << 28);
 }
 
 #[test]

@@ -97,9 +97,7 @@ fn range_ends_of_one_pixel() {
                 let ends = ranges(transform, depth).map(|(low, high)| [low - 1, low, 0, high, high + 1]);
                 for nulls in 0..1u32 << places(transform) {
                     let mut case = random::case_of(random, settings, origin);
-                    for (place, choice) in case.choices.iter_mut().enumerate() {
-                        *choice = if nulls >> place & 1 == 1 { 12 } else { 0 };
-                    }
+                    case.set_nulls(nulls, || 0);
                     for code in 0..125 {
                         let which = [code % 5, code / 5 % 5, code / 25];
                         case.planes = [0, 1, 2].map(|plane| vec![ends[plane][which[plane]] as i32]);
@@ -119,9 +117,7 @@ fn corners(transform: u32, depth: u32) -> [[i64; 3]; 8] {
     [0, 1, 2, 3, 4, 5, 6, 7].map(|code| [0, 1, 2].map(|plane| ends[plane][code >> plane & 1]))
 }
 
-/// Planes of one number each, at the ends of their ranges at depth 16, with every filter and every set of null places:
-/// windows with large sums. Lent or undone, no such sum needs more than 32 signed bits, doubled and with the
-/// weights added.
+/// Planes of one number each, at the ends of their ranges at depth 16, with every filter and every set of null places.
 #[test]
 fn large_window_sums() {
     each_round("large_window_sums", 1, |random, origin| {
@@ -130,13 +126,11 @@ fn large_window_sums() {
                 for filter in 0..12 {
                     let settings = Settings { width: 4, height: 3, depth: 16, transform };
                     let mut case = random::case_of(random, settings, origin);
-                    for (place, choice) in case.choices.iter_mut().enumerate() {
-                        *choice = if nulls >> place & 1 == 1 { 12 } else { filter };
-                    }
+                    case.set_nulls(nulls, || filter);
                     for numbers in corners(transform, 16) {
-                        case.planes = numbers.map(|number| vec![number as i32; 12]);
+                        case.planes = numbers.map(|number| vec![number as i32; case.samples()]);
                         case.inverse();
-                        sums_fit(&case, numbers);
+                        sums_fit(&case);
                     }
                 }
             }
@@ -144,11 +138,15 @@ fn large_window_sums() {
     });
 }
 
-fn sums_fit(case: &Case, numbers: [i64; 3]) {
-    let lent = numbers.map(|number| vec![number; 12]);
-    let undone = undo(case.settings.transform, 4, 3, &case.choices, lent.clone());
+/// The sum of a whole window, doubled and with the weights added, fits 32 signed bits for the highest centre weight: in
+/// the planes lent, and with all steps undone.
+fn sums_fit(case: &Case) {
+    let Settings { width, height, transform, .. } = case.settings;
+    let (width, height) = (width as usize, height as usize);
+    let lent = case.planes.each_ref().map(|plane| plane.iter().map(|&number| i64::from(number)).collect());
+    let undone = undo(transform, width, height, &case.choices, lent.clone());
     for plane in lent.iter().chain(&undone) {
-        let (sum, weights) = window(plane, 4, 3, 11, 1, 1);
+        let (sum, weights) = window(plane, width, height, 11, 1, 1);
         assert!(i32::try_from(2 * sum + weights).is_ok(), "{case}");
     }
 }

@@ -40,6 +40,13 @@ impl Case {
         self.settings.width as usize * self.settings.height as usize
     }
 
+    /// Null at the places whose bit is set, another filter at each of the others.
+    pub fn set_nulls(&mut self, nulls: u32, mut other: impl FnMut() -> u8) {
+        for (place, choice) in self.choices.iter_mut().enumerate() {
+            *choice = if nulls >> place & 1 == 1 { 12 } else { other() };
+        }
+    }
+
     fn lent_planes(&self) -> [Lent<i32>; 3] {
         [0, 1, 2].map(|i| Lent::new(&self.planes[i], self.alignment + i))
     }

@@ -72,9 +72,7 @@ fn every_set_of_null_places() {
                 for (width, height) in SIZES {
                     let depth = 2 + random.below(15) as u32;
                     let mut case = random::case_of(random, Settings { width, height, depth, transform }, origin);
-                    for (place, choice) in case.choices.iter_mut().enumerate() {
-                        *choice = if nulls >> place & 1 == 1 { 12 } else { random.below(12) as u8 };
-                    }
+                    case.set_nulls(nulls, || random.below(12) as u8);
                     there_and_back(&case);
                 }
             }

@@ -41,7 +41,7 @@ abbrev pub weightedSum : (ℕ → ℕ) → (ℕ → ℤ) → ℕ → ℤ
 weightedSum f g zero = pos 0
 weightedSum f g (suc n) = weightedSum f g n +ℤ pos (f n) *ℤ g n
 
--- 2 × S + W, and (2 × S + W) / (2 × W) rounded down, also below zero
+-- 2 × S + W, the sum "doubled and rounded" (02, request 3), and (2 × S + W) / (2 × W) rounded down, also below zero
 abbrev pub roundedSum : (S : ℤ) (W : ℕ) → ℤ
 roundedSum s n = pos 2 *ℤ s +ℤ pos n
 

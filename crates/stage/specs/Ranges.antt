@@ -91,8 +91,8 @@ pub record Inside (r R : Range) : Type 0 where
 abbrev pub AllInside : (r R : Triple Range) → Type 0
 AllInside r R = (c : Plane) → Inside (get r c) (get R c)
 
--- A setup keeps the ranges from r on: a result in a range that holds its plane's is kept in it. So it is where results are kept as they
--- are, and where they are kept as 0 to M and every range holds that.
+-- A setup keeps ranges: a result that lies in a range is kept in it, if the range holds that of r for the result's plane. So it is where
+-- results are kept as they are, and where r is 0 to M and they are kept as 0 to M.
 abbrev pub KeepsRanges : (r : Triple Range) (σ : Setup) → Type 0
 KeepsRanges r σ = (c : Plane) (R : Range) → Inside (get r c) R → (z : ℤ) → Within R z → Within R (σ .keep z)
 
