@@ -47,7 +47,6 @@ uint32_t plain_inverse(const setting *s, const uint8_t *choices, int32_t *const 
 typedef struct {
     uint32_t refusal, estimate, samples;
 } estimated;
-size_t counters_of(uint32_t depth, uint32_t transform);
 void fill_logarithms(void);
 estimated plain_estimate(const setting *s, const uint8_t *choices, int32_t *const planes[3], int32_t *const trial[3],
                          uint32_t *counters);

@@ -71,8 +71,8 @@ void allocate(size_t widest_square)
         work[0][i] = touched(bytes, i);
         work[1][i] = touched(bytes, i);
     }
-    counters[0] = touched(4 * counters_of(16, 1), 0);   /* no case needs more */
-    counters[1] = touched(4 * counters_of(16, 1), 0);
+    counters[0] = touched(4 * RULANTIP_COUNTERS_MAX, 0);
+    counters[1] = touched(4 * RULANTIP_COUNTERS_MAX, 0);
 }
 
 /* Slopes, alike in all planes, and noise of each plane's own. */
@@ -112,7 +112,8 @@ static void expect(int equal, const char *what, const setting *s)
     exit(1);
 }
 
-#define SETTING(s) (uint32_t)(s)->width, (uint32_t)(s)->height, (s)->depth, (s)->transform
+#define DEPTHS(s) (s)->depth, (s)->depth, (s)->depth   /* one for all planes */
+#define SETTING(s) (uint32_t)(s)->width, (uint32_t)(s)->height, DEPTHS(s), (s)->transform
 #define PLANES(s, p) p[0], (s)->width * (s)->height, p[1], (s)->width * (s)->height, p[2], (s)->width * (s)->height
 
 static void time_transform(int library, int back, const setting *s, const uint8_t *c, int32_t *const p[3], times *t)
@@ -145,7 +146,7 @@ static void turn_transform(uint32_t turn, const setting *s, const uint8_t *choic
 
 static estimated time_search(int library, uint32_t rounds, const setting *s, uint8_t *c, uint32_t set, times *t)
 {
-    size_t places = places_of(s->transform), needed = counters_of(s->depth, s->transform);
+    size_t places = places_of(s->transform), needed = rulantip_counters(DEPTHS(s), s->transform);
     int32_t *const *p = work[set];
     uint32_t *k = counters[set];
     rulantip_estimated e;
@@ -179,7 +180,7 @@ static void turn_search(uint32_t turn, uint32_t rounds, const setting *s, const 
     expect(e[0].estimate == e[1].estimate && e[0].samples == e[1].samples, "the estimate", s);
     expect(!memcmp(choices[0], choices[1], MOST_PLACES), "a choice", s);
     expect(same_planes(s, work[0], work[1]), "a trial plane", s);
-    expect(!memcmp(counters[0], counters[1], 4 * counters_of(s->depth, s->transform)), "a counter", s);
+    expect(!memcmp(counters[0], counters[1], 4 * rulantip_counters(DEPTHS(s), s->transform)), "a counter", s);
 }
 
 static void print_case(enum kind kind, const char *call, const setting *s, const char *filter, times *t, uint32_t turns)

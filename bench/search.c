@@ -39,7 +39,7 @@ static int32_t widest(uint32_t depth, uint32_t transform)
     return most;
 }
 
-size_t counters_of(uint32_t depth, uint32_t transform) { return 2 * (size_t)widest(depth, transform) + 1; }
+static size_t counters_of(uint32_t depth, uint32_t transform) { return 2 * (size_t)widest(depth, transform) + 1; }
 
 /* The median of a, e and a + e - c. */
 INLINE int32_t med(int32_t a, int32_t e, int32_t c)

@@ -3,8 +3,9 @@
 
    Link with target/staticlib/librulantip.a, which `rt staticlib rulantip` proves and writes.
 
-   A PICTURE has width and height 1 to 8,192, a depth b of 2 to 16 bits and three planes of
-   width * height numbers, row by row. As a picture they hold R, G and B, each 0 to M = 2^b - 1.
+   A PICTURE has width and height 1 to 8,192 and three planes of width * height numbers, row by row,
+   each plane with a depth b of its own, 2 to 16 bits. As a picture the planes hold R, G and B, each
+   sample 0 to its plane's M = 2^b - 1. Textures of five, six and five bits have the depths 5, 6, 5.
 
    TRANSFORMS and their places, each place with a filter of its own (d marks a filtered value; the
    places are numbered in the order written; divisions round down):
@@ -32,7 +33,8 @@
    may call at once on different memory; memory that is only read may be the same.
 
    REFUSALS. A call returns 0, or the number of the first test that fails; a struct has it in its
-   field `refusal`, and its other fields are then 0. On a refusal all lent memory is as on entry. */
+   field `refusal`, and its other fields are then 0. On a refusal all lent memory is as on entry.
+   rulantip_counters alone answers with a count. */
 
 #ifndef RULANTIP_H
 #define RULANTIP_H
@@ -57,7 +59,7 @@ extern "C" {
 #define RULANTIP_REFUSED_RASTER 4        /* other than 3 * width * height bytes follow the header */
 
 /* Refusals that the calling program can cause, with number 2. */
-#define RULANTIP_REFUSED_DEPTH 5         /* depth outside 2 to 16 */
+#define RULANTIP_REFUSED_DEPTH 5         /* any of the three depths outside 2 to 16 */
 #define RULANTIP_REFUSED_TRANSFORM 6     /* transform above 3 */
 #define RULANTIP_REFUSED_CHOICES 7       /* not one choice for each place, or a choice above 12 */
 #define RULANTIP_REFUSED_PLANE 8         /* a plane's length is not width * height */
@@ -65,12 +67,29 @@ extern "C" {
 #define RULANTIP_REFUSED_ROUNDS 10       /* rounds outside 1 to 4 */
 
 /* Refusals that whoever made the samples can cause. */
-#define RULANTIP_REFUSED_SAMPLE 11       /* a sample of the picture outside 0 to M */
-#define RULANTIP_REFUSED_UNREACHED 12    /* planes that no picture goes to */
+#define RULANTIP_REFUSED_SAMPLE 11       /* a sample of the picture outside 0 to its plane's M */
+#define RULANTIP_REFUSED_UNREACHED 12    /* planes that no picture of these depths goes to */
 
-/* SCRATCH of rulantip_estimate and rulantip_search: three trial planes of width * height numbers or
-   more, and 2 * D + 1 counters or more, D being the widest range of the transform's finished planes.
-   With M = 2^b - 1, H = 2^(b-1) and q = 2^(b-2):
+/* RANGES of finished planes, under any choices. M1, M2 and M3 are the highest samples of planes 1, 2
+   and 3, divisions round down, max is the greater of two; l = (M3 + 1)/2 and u = M3 + M1/2:
+
+     RCT      plane 1  -M2                   to  M1
+              plane 2  -((2 * M2 + 3)/4)     to  M2 + (M1 + M3)/4
+              plane 3  -M2                   to  M3
+     YCoCg-R  plane 1  -M3                   to  M1
+              plane 2  -u                    to  M2 + l
+              plane 3  -(l + (u + 1)/2)      to  u + (M2 + l)/2
+     RDgDb    plane 1  0                     to  M1
+              plane 2  -M2                   to  max(M1, M2)
+              plane 3  -M3                   to  max(M2, M3)
+     LDgEb    plane 1  -(max(M1, M2)/2)      to  M1 + (M2 + 1)/2
+              plane 2  -M2                   to  max(M1, M2)
+              plane 3  -(M1 + (M2 + 1)/2)    to  M3 + max(M1, M2)/2
+
+   SCRATCH of rulantip_estimate and rulantip_search: three trial planes of width * height numbers or
+   more, and 2 * D + 1 counters or more, D being the widest range (highest less lowest) of the
+   transform's finished planes. rulantip_counters tells 2 * D + 1 at any three depths. Where all planes
+   have depth b, with M = 2^b - 1, H = 2^(b-1) and q = 2^(b-2):
 
                     D            2 * D + 1     depth 8   depth 16
      RCT, RDgDb     2 * M        8 * H - 3       1,021    262,141
@@ -80,16 +99,28 @@ extern "C" {
    What the scratch holds on entry does not matter; after success all of it is 0, also what was lent
    beyond the need. */
 
-/* Counters that are enough for every transform at the depth, and at every depth. */
-#define RULANTIP_COUNTERS(depth) (((size_t)14 << ((depth) - 1)) - 7)
+/* Counters that are enough for every transform where no depth is above `deepest`, 2 to 16; and at any
+   depths. */
+#define RULANTIP_COUNTERS(deepest) (((size_t)14 << ((deepest) - 1)) - 7)
 #define RULANTIP_COUNTERS_MAX 458745
+
+/* How many counters rulantip_estimate and rulantip_search need, 2 * D + 1; or 0 where they would
+   refuse a depth with 5 or the transform with 6. It tests nothing else, and no memory is lent. */
+uint32_t rulantip_counters(
+    uint32_t depth1,        /* of plane 1, R, 2 to 16 */
+    uint32_t depth2,        /* of plane 2, G, 2 to 16 */
+    uint32_t depth3,        /* of plane 3, B, 2 to 16 */
+    uint32_t transform      /* 0 to 3 */
+);
 
 /* Runs the transform's steps on a picture, in place.
    Tests, in this order: 2, 5, 6, 7, 8, 11. After success the planes hold what the picture goes to. */
 uint32_t rulantip_forward(
     uint32_t width,         /* of the picture, 1 to 8,192 */
     uint32_t height,        /* of the picture, 1 to 8,192 */
-    uint32_t depth,         /* b, the bits of a sample, 2 to 16 */
+    uint32_t depth1,        /* b of plane 1, R: the bits of its samples, 2 to 16 */
+    uint32_t depth2,        /* b of plane 2, G, 2 to 16 */
+    uint32_t depth3,        /* b of plane 3, B, 2 to 16 */
     uint32_t transform,     /* 0 to 3 */
     const uint8_t *choices, /* the filter of each place, 0 to 12 */
     size_t choices_len,     /* the number of the transform's places */
@@ -102,12 +133,15 @@ uint32_t rulantip_forward(
 );
 
 /* Undoes the transform's steps in the opposite order, in place, with the choices of the forward call.
-   Tests, in this order: 2, 5, 6, 7, 8, 12. After success the planes hold the one picture that goes to
-   the planes lent. It refuses with 12 exactly where there is none; the planes are then as on entry. */
+   Tests, in this order: 2, 5, 6, 7, 8, 12. After success the planes hold the one picture of these
+   depths that goes to the planes lent. It refuses with 12 exactly where there is none; the planes are
+   then as on entry. */
 uint32_t rulantip_inverse(
     uint32_t width,         /* as in rulantip_forward, to the end */
     uint32_t height,
-    uint32_t depth,
+    uint32_t depth1,
+    uint32_t depth2,
+    uint32_t depth3,
     uint32_t transform,
     const uint8_t *choices,
     size_t choices_len,
@@ -134,7 +168,9 @@ typedef struct {
 rulantip_estimated rulantip_estimate(
     uint32_t width,         /* as in rulantip_forward */
     uint32_t height,
-    uint32_t depth,
+    uint32_t depth1,
+    uint32_t depth2,
+    uint32_t depth3,
     uint32_t transform,
     const uint8_t *choices, /* the filter of each place, 0 to 12 */
     size_t choices_len,
@@ -151,7 +187,7 @@ rulantip_estimated rulantip_estimate(
     int32_t *t3,            /* trial plane 3, scratch */
     size_t t3_len,          /* width * height or more */
     uint32_t *counters,     /* scratch */
-    size_t counters_len     /* 2 * D + 1 or more */
+    size_t counters_len     /* 2 * D + 1 or more; rulantip_counters tells it */
 );
 
 /* Searches for the filters with the lowest estimate, a place at a time, from filter 0 everywhere.
@@ -161,7 +197,9 @@ rulantip_estimated rulantip_estimate(
 rulantip_estimated rulantip_search(
     uint32_t width,         /* as in rulantip_forward */
     uint32_t height,
-    uint32_t depth,
+    uint32_t depth1,
+    uint32_t depth2,
+    uint32_t depth3,
     uint32_t transform,
     uint32_t rounds,        /* how often to go through the places, 1 to 4 */
     uint8_t *choices,       /* receives the filter of each place */
@@ -187,7 +225,7 @@ typedef struct {
     uint32_t refusal;       /* 0, or the refusal's number */
     uint32_t width;         /* 1 to 8,192 */
     uint32_t height;        /* 1 to 8,192 */
-    uint32_t depth;         /* 2 to 8 */
+    uint32_t depth;         /* of all three planes, 2 to 8 */
 } rulantip_pixmap;
 
 /* Reads the header of a P6 file. Tests, in this order: 1, 2, 3, 4. After success the raster is the

@@ -1,8 +1,8 @@
 //! Pictures by number, easy to make again in any language.
 //!
 //! A 32-bit linear congruential generator starts at the seed. For every sample
-//! x ← (x × 1664525 + 1013904223) mod 2^32, and the sample is (x / 65536) mod (M + 1).
-//! Samples come in the order plane 1 row by row, then plane 2, then plane 3.
+//! x ← (x × 1664525 + 1013904223) mod 2^32, and the sample is (x / 65536) mod (M + 1), M being its
+//! plane's. Samples come in the order plane 1 row by row, then plane 2, then plane 3.
 
 /// The generator: its present x.
 pub struct Congruential(pub u32);
@@ -16,13 +16,13 @@ impl Congruential {
 }
 
 /// The three planes of the picture that `seed` gives.
-pub fn picture(width: u32, height: u32, depth: u32, seed: u32) -> [Vec<i32>; 3] {
+pub fn picture(width: u32, height: u32, depths: [u32; 3], seed: u32) -> [Vec<i32>; 3] {
     let samples = width as usize * height as usize;
     let mut numbers = Congruential(seed);
-    [(); 3].map(|()| (0..samples).map(|_| (numbers.next() % (1 << depth)) as i32).collect())
+    depths.map(|depth| (0..samples).map(|_| (numbers.next() % (1 << depth)) as i32).collect())
 }
 
-/// The P6 file of a picture of depth 2 to 8, with the plainest header.
+/// The P6 file of a picture whose planes all have a depth of 2 to 8, with the plainest header.
 pub fn pixmap(width: u32, height: u32, depth: u32, planes: &[Vec<i32>; 3]) -> Vec<u8> {
     let mut file = format!("P6\n{width} {height}\n{}\n", (1u32 << depth) - 1).into_bytes();
     for i in 0..planes[0].len() {
@@ -39,8 +39,9 @@ mod tests {
 
     #[test]
     fn first_numbers() {
-        // 1013904223 = 15470 * 65536 + 62303; 15470 mod 256 = 110.
-        assert_eq!(picture(1, 1, 8, 0)[0], [110]);
+        // 1013904223 = 15470 * 65536 + 62303; 15470 mod 256 = 110. Then 18256 and 53708.
+        assert_eq!(picture(1, 1, [8; 3], 0), [[110], [80], [204]]);
+        assert_eq!(picture(1, 1, [2, 16, 3], 0), [[2], [18256], [4]]);
         assert_eq!(pixmap(2, 1, 2, &[vec![0, 1], vec![2, 3], vec![1, 0]]), b"P6\n2 1\n3\n\x00\x02\x01\x01\x03\x00");
     }
 }

@@ -53,13 +53,13 @@ impl fmt::Display for Refusal {
             Refusal::Size => "width or height is outside 1 to 8,192",
             Refusal::Maxval => "maxval is not 3, 7, 15, 31, 63, 127 or 255",
             Refusal::Raster => "other than 3 * width * height bytes follow the header",
-            Refusal::Depth => "the depth is outside 2 to 16",
+            Refusal::Depth => "a depth is outside 2 to 16",
             Refusal::Transform => "the transform is above 3",
             Refusal::Choices => "there is not one choice for each place, or a choice is above 12",
             Refusal::Plane => "a plane's length is not width * height",
             Refusal::Scratch => "a trial plane is short, or there are too few counters",
             Refusal::Rounds => "the rounds are outside 1 to 4",
-            Refusal::Sample => "a sample is outside the depth",
+            Refusal::Sample => "a sample is outside its plane's depth",
             Refusal::Unreached => "no picture goes to these planes",
         })
     }
@@ -72,7 +72,8 @@ impl std::error::Error for Refusal {}
 pub struct Settings {
     pub width: u32,
     pub height: u32,
-    pub depth: u32,
+    /// The bits of a sample in planes 1, 2 and 3: R, G and B.
+    pub depths: [u32; 3],
     pub transform: u32,
 }
 
@@ -94,13 +95,19 @@ pub struct Estimated {
 pub struct Pixmap<'a> {
     pub width: u32,
     pub height: u32,
+    /// Of all three planes.
     pub depth: u32,
     pub raster: &'a [u8],
 }
 
-/// Counters that are enough for every transform at the depth, which is 2 to 16.
-pub fn counters(depth: u32) -> usize {
-    (14 << (depth - 1)) - 7
+/// How many counters the estimate and the search need; None where they would refuse a depth or the transform.
+pub fn counters(depths: [u32; 3], transform: u32) -> Option<usize> {
+    let [depth1, depth2, depth3] = depths;
+    // SAFETY: the function is given numbers alone.
+    match unsafe { c::rulantip_counters(depth1, depth2, depth3, transform) } {
+        0 => None,
+        needed => Some(needed as usize),
+    }
 }
 
 /// How many places the transform has, which is 0 to 3.
@@ -125,14 +132,14 @@ pub fn estimate(
     planes: [&[i32]; 3],
     scratch: Scratch<'_>,
 ) -> Result<Estimated, Refusal> {
-    let Settings { width, height, depth, transform } = settings;
+    let Settings { width, height, depths: [depth1, depth2, depth3], transform } = settings;
     let [c1, c2, c3] = planes;
     let Scratch { trial: [t1, t2, t3], counters } = scratch;
     // SAFETY: every pointer and length is a slice's; what is written is lent as &mut.
     #[rustfmt::skip]
     let answer = unsafe {
         c::rulantip_estimate(
-            width, height, depth, transform,
+            width, height, depth1, depth2, depth3, transform,
             choices.as_ptr(), choices.len(),
             c1.as_ptr(), c1.len(), c2.as_ptr(), c2.len(), c3.as_ptr(), c3.len(),
             t1.as_mut_ptr(), t1.len(), t2.as_mut_ptr(), t2.len(), t3.as_mut_ptr(), t3.len(),
@@ -150,14 +157,14 @@ pub fn search(
     planes: [&[i32]; 3],
     scratch: Scratch<'_>,
 ) -> Result<Estimated, Refusal> {
-    let Settings { width, height, depth, transform } = settings;
+    let Settings { width, height, depths: [depth1, depth2, depth3], transform } = settings;
     let [c1, c2, c3] = planes;
     let Scratch { trial: [t1, t2, t3], counters } = scratch;
     // SAFETY: every pointer and length is a slice's; what is written is lent as &mut.
     #[rustfmt::skip]
     let answer = unsafe {
         c::rulantip_search(
-            width, height, depth, transform, rounds,
+            width, height, depth1, depth2, depth3, transform, rounds,
             choices.as_mut_ptr(), choices.len(),
             c1.as_ptr(), c1.len(), c2.as_ptr(), c2.len(), c3.as_ptr(), c3.len(),
             t1.as_mut_ptr(), t1.len(), t2.as_mut_ptr(), t2.len(), t3.as_mut_ptr(), t3.len(),
@@ -199,13 +206,13 @@ fn refusal(number: u32) -> Result<(), Refusal> {
 }
 
 fn in_place(call: c::InPlace, settings: Settings, choices: &[u8], planes: [&mut [i32]; 3]) -> Result<(), Refusal> {
-    let Settings { width, height, depth, transform } = settings;
+    let Settings { width, height, depths: [depth1, depth2, depth3], transform } = settings;
     let [c1, c2, c3] = planes;
     // SAFETY: every pointer and length is a slice's; what is written is lent as &mut.
     #[rustfmt::skip]
     let answer = unsafe {
         call(
-            width, height, depth, transform,
+            width, height, depth1, depth2, depth3, transform,
             choices.as_ptr(), choices.len(),
             c1.as_mut_ptr(), c1.len(), c2.as_mut_ptr(), c2.len(), c3.as_mut_ptr(), c3.len(),
         )
@@ -233,111 +240,52 @@ pub mod c {
     }
 
     /// The type of both calls that change planes in place.
+    #[rustfmt::skip]
     pub type InPlace = unsafe extern "C" fn(
-        u32,
-        u32,
-        u32,
-        u32,
-        *const u8,
-        usize,
-        *mut i32,
-        usize,
-        *mut i32,
-        usize,
-        *mut i32,
-        usize,
+        u32, u32, u32, u32, u32, u32,
+        *const u8, usize,
+        *mut i32, usize, *mut i32, usize, *mut i32, usize,
     ) -> u32;
 
     #[link(name = "rulantip", kind = "static")]
+    #[rustfmt::skip]
     extern "C" {
         pub fn rulantip_forward(
-            width: u32,
-            height: u32,
-            depth: u32,
-            transform: u32,
-            choices: *const u8,
-            choices_len: usize,
-            c1: *mut i32,
-            c1_len: usize,
-            c2: *mut i32,
-            c2_len: usize,
-            c3: *mut i32,
-            c3_len: usize,
+            width: u32, height: u32, depth1: u32, depth2: u32, depth3: u32, transform: u32,
+            choices: *const u8, choices_len: usize,
+            c1: *mut i32, c1_len: usize, c2: *mut i32, c2_len: usize, c3: *mut i32, c3_len: usize,
         ) -> u32;
 
         pub fn rulantip_inverse(
-            width: u32,
-            height: u32,
-            depth: u32,
-            transform: u32,
-            choices: *const u8,
-            choices_len: usize,
-            c1: *mut i32,
-            c1_len: usize,
-            c2: *mut i32,
-            c2_len: usize,
-            c3: *mut i32,
-            c3_len: usize,
+            width: u32, height: u32, depth1: u32, depth2: u32, depth3: u32, transform: u32,
+            choices: *const u8, choices_len: usize,
+            c1: *mut i32, c1_len: usize, c2: *mut i32, c2_len: usize, c3: *mut i32, c3_len: usize,
         ) -> u32;
 
+        pub fn rulantip_counters(depth1: u32, depth2: u32, depth3: u32, transform: u32) -> u32;
+
         pub fn rulantip_estimate(
-            width: u32,
-            height: u32,
-            depth: u32,
-            transform: u32,
-            choices: *const u8,
-            choices_len: usize,
-            c1: *const i32,
-            c1_len: usize,
-            c2: *const i32,
-            c2_len: usize,
-            c3: *const i32,
-            c3_len: usize,
-            t1: *mut i32,
-            t1_len: usize,
-            t2: *mut i32,
-            t2_len: usize,
-            t3: *mut i32,
-            t3_len: usize,
-            counters: *mut u32,
-            counters_len: usize,
+            width: u32, height: u32, depth1: u32, depth2: u32, depth3: u32, transform: u32,
+            choices: *const u8, choices_len: usize,
+            c1: *const i32, c1_len: usize, c2: *const i32, c2_len: usize, c3: *const i32, c3_len: usize,
+            t1: *mut i32, t1_len: usize, t2: *mut i32, t2_len: usize, t3: *mut i32, t3_len: usize,
+            counters: *mut u32, counters_len: usize,
         ) -> RulantipEstimated;
 
         pub fn rulantip_search(
-            width: u32,
-            height: u32,
-            depth: u32,
-            transform: u32,
+            width: u32, height: u32, depth1: u32, depth2: u32, depth3: u32, transform: u32,
             rounds: u32,
-            choices: *mut u8,
-            choices_len: usize,
-            c1: *const i32,
-            c1_len: usize,
-            c2: *const i32,
-            c2_len: usize,
-            c3: *const i32,
-            c3_len: usize,
-            t1: *mut i32,
-            t1_len: usize,
-            t2: *mut i32,
-            t2_len: usize,
-            t3: *mut i32,
-            t3_len: usize,
-            counters: *mut u32,
-            counters_len: usize,
+            choices: *mut u8, choices_len: usize,
+            c1: *const i32, c1_len: usize, c2: *const i32, c2_len: usize, c3: *const i32, c3_len: usize,
+            t1: *mut i32, t1_len: usize, t2: *mut i32, t2_len: usize, t3: *mut i32, t3_len: usize,
+            counters: *mut u32, counters_len: usize,
         ) -> RulantipEstimated;
 
         pub fn rulantip_p6_header(file: *const u8, file_len: usize) -> RulantipPixmap;
 
         pub fn rulantip_p6_planes(
-            file: *const u8,
-            file_len: usize,
-            c1: *mut i32,
-            c1_len: usize,
-            c2: *mut i32,
-            c2_len: usize,
-            c3: *mut i32,
-            c3_len: usize,
+            file: *const u8, file_len: usize,
+            c1: *mut i32, c1_len: usize, c2: *mut i32, c2_len: usize, c3: *mut i32, c3_len: usize,
         ) -> u32;
     }
 }

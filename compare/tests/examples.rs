@@ -1,8 +1,9 @@
 //! Builds the example programs by their own makefiles, runs them, and holds what they print to the
-//! reference. The header is also compiled as C++.
+//! reference. The header is also compiled as C++, and its macros and its table of ranges are tried.
 
 use compare::generator;
-use compare::reference::{forward, pixmap_header, pixmap_planes, places, search, Scratch, Settings, NAMES};
+use compare::reference::{all_depths, counters, forward, pixmap_header, pixmap_planes, places, ranges, search};
+use compare::reference::{Scratch, Settings, NAMES};
 use std::fmt::Write;
 use std::fs;
 use std::path::{Path, PathBuf};
@@ -46,7 +47,7 @@ fn expected(file: &[u8]) -> String {
     let mut text = format!("width {width} height {height} depth {depth}\ntransform filters estimate samples\n");
     let mut best: Option<(u32, Settings, Vec<u8>)> = None;
     for (transform, name) in (0..4).zip(NAMES) {
-        let settings = Settings { width, height, depth, transform };
+        let settings = Settings { width, height, depths: [depth; 3], transform };
         let scratch = Scratch { trial: [samples; 3], counters: usize::MAX };
         let found = search(settings, 2, places(transform), planes, scratch).unwrap();
         let filters: Vec<String> = found.filters.iter().map(u8::to_string).collect();
@@ -68,7 +69,7 @@ fn expected(file: &[u8]) -> String {
 
 fn files() -> Vec<Vec<u8>> {
     let generated = |width, height, depth, seed| {
-        generator::pixmap(width, height, depth, &generator::picture(width, height, depth, seed))
+        generator::pixmap(width, height, depth, &generator::picture(width, height, [depth; 3], seed))
     };
     // A smooth picture with noise, more samples than are counted.
     let (width, height) = (90u32, 70u32);
@@ -123,14 +124,17 @@ fn rust_example() {
     example("rust");
 }
 
-/// The header compiles alone in C and in C++ of several standards, and its macros give what is needed.
+/// The header compiles alone in C and in C++ of several standards, and its macros give the most that is needed where no
+/// depth is above theirs.
 #[test]
 fn header_alone() {
     let source = folder("header").join("header.c");
     let mut text = String::from("#include \"rulantip.h\"\n#include \"rulantip.h\"\n");
-    for depth in 2..=16 {
-        let most = (0..4).map(|transform| compare::reference::counters_needed(transform, depth)).max().unwrap();
-        writeln!(text, "typedef char at_{depth}[RULANTIP_COUNTERS({depth}) == {most} ? 1 : -1];").unwrap();
+    for deepest in 2..=16 {
+        let within = |depths: &[u32; 3]| depths.iter().all(|&depth| depth <= deepest);
+        let most = |depths| (0..4).map(|transform| counters(depths, transform)).max().unwrap();
+        let most = all_depths().filter(within).map(most).max().unwrap();
+        writeln!(text, "typedef char at_{deepest}[RULANTIP_COUNTERS({deepest}) == {most} ? 1 : -1];").unwrap();
     }
     text += "typedef char most[RULANTIP_COUNTERS(16) == RULANTIP_COUNTERS_MAX ? 1 : -1];\n";
     fs::write(&source, text).unwrap();
@@ -145,4 +149,48 @@ fn header_alone() {
             .arg(&source));
         assert!(compiled.status.success(), "{standard}: {}", String::from_utf8_lossy(&compiled.stderr));
     }
+}
+
+/// The header's table of ranges as a C program that prints them for every three depths.
+fn program_of_ranges(header: &str) -> String {
+    let (_, table) = header.split_once("RANGES of finished planes").expect("the table of ranges");
+    let row = |line: &str| {
+        let (_, row) = line.split_once("plane ")?;
+        let (low, high) = row.strip_prefix(['1', '2', '3'])?.split_once(" to ")?;
+        Some(format!("printf(\"%ld %ld\\n\", (long)({low}), (long)({high}));\n"))
+    };
+    let rows: Vec<String> = table.lines().filter_map(row).take(12).collect();
+    let (l, rest) = table.split_once("l = ").and_then(|(_, rest)| rest.split_once(" and u = ")).expect("l and u");
+    let (u, _) = rest.split_once(':').expect("the end of u");
+    format!(
+        "#include <stdio.h>\n\
+         static long max(long a, long b) {{ return a > b ? a : b; }}\n\
+         int main(void)\n{{\n\
+         for (int b1 = 2; b1 <= 16; b1++) for (int b2 = 2; b2 <= 16; b2++) for (int b3 = 2; b3 <= 16; b3++) {{\n\
+         long M1 = (1L << b1) - 1, M2 = (1L << b2) - 1, M3 = (1L << b3) - 1, l = {l}, u = {u};\n\
+         {}}}\n}}\n",
+        rows.concat()
+    )
+}
+
+/// The table of ranges in the header gives what the reference finds step by step.
+#[test]
+fn ranges_of_the_header() {
+    let header = fs::read_to_string(root().join("include/rulantip.h")).unwrap();
+    let [source, program] = ["ranges.c", "ranges"].map(|name| folder("header").join(name));
+    fs::write(&source, program_of_ranges(&header)).unwrap();
+    let made =
+        run(Command::new("gcc").args(["-std=c99", "-Wall", "-Wextra", "-Werror", "-o"]).arg(&program).arg(&source));
+    assert!(made.status.success(), "{}", String::from_utf8_lossy(&made.stderr));
+    let printed = String::from_utf8(run(&mut Command::new(&program)).stdout).unwrap();
+    let mut lines = printed.lines();
+    for depths in all_depths() {
+        for (transform, name) in (0..4).zip(NAMES) {
+            for (range, plane) in ranges(depths, transform).into_iter().zip(1..) {
+                let expected = format!("{} {}", range.low, range.high);
+                assert_eq!(lines.next(), Some(expected.as_str()), "{name} plane {plane} depths {depths:?}");
+            }
+        }
+    }
+    assert_eq!(lines.next(), None);
 }

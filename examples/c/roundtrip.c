@@ -14,13 +14,13 @@ static const char *const causes[13] = {
     "width or height is outside 1 to 8,192",
     "maxval is not 3, 7, 15, 31, 63, 127 or 255",
     "other than 3 * width * height bytes follow the header",
-    "the depth is outside 2 to 16",
+    "a depth is outside 2 to 16",
     "the transform is above 3",
     "there is not one choice for each place, or a choice is above 12",
     "a plane's length is not width * height",
     "a trial plane is short, or there are too few counters",
     "the rounds are outside 1 to 4",
-    "a sample is outside the depth",
+    "a sample is outside its plane's depth",
     "no picture goes to these planes",
 };
 
@@ -72,6 +72,19 @@ static uint8_t *read_file(const char *name, size_t *length)
     return bytes;
 }
 
+/* The most counters that a transform needs at the depth. */
+static size_t most_counters(uint32_t depth)
+{
+    uint32_t most = 0, transform;
+
+    for (transform = 0; transform < 4; transform++) {
+        uint32_t needed = rulantip_counters(depth, depth, depth, transform);
+        if (needed > most)
+            most = needed;
+    }
+    return most;
+}
+
 /* The lowest and the highest number of a plane. */
 static void print_range(int number, const int32_t *plane, size_t samples)
 {
@@ -95,7 +108,7 @@ int main(int argc, char **argv)
     int32_t *c1, *c2, *c3, *t1, *t2, *t3;
     uint32_t *counter;
     uint8_t choices[4][4];
-    uint32_t best = 0, lowest = 0, refusal, transform;
+    uint32_t best = 0, lowest = 0, refusal, transform, depth;
     rulantip_pixmap picture;
 
     if (argc != 2)
@@ -104,7 +117,8 @@ int main(int argc, char **argv)
     picture = rulantip_p6_header(file, length);
     if (picture.refusal != 0)
         stop_refused(argv[1], picture.refusal);
-    printf("width %u height %u depth %u\n", (unsigned)picture.width, (unsigned)picture.height, (unsigned)picture.depth);
+    depth = picture.depth; /* a P6 file has one for all three planes */
+    printf("width %u height %u depth %u\n", (unsigned)picture.width, (unsigned)picture.height, (unsigned)depth);
 
     samples = (size_t)picture.width * picture.height;
     raster = file + (length - 3 * samples);
@@ -119,14 +133,14 @@ int main(int argc, char **argv)
     t1 = memory(samples, sizeof *t1);
     t2 = memory(samples, sizeof *t2);
     t3 = memory(samples, sizeof *t3);
-    counters = RULANTIP_COUNTERS(picture.depth);
+    counters = most_counters(depth);
     counter = memory(counters, sizeof *counter);
 
     printf("transform filters estimate samples\n");
     for (transform = 0; transform < 4; transform++) {
         uint8_t *found = choices[transform];
         rulantip_estimated answer = rulantip_search(
-            picture.width, picture.height, picture.depth, transform, 2, found, places[transform],
+            picture.width, picture.height, depth, depth, depth, transform, 2, found, places[transform],
             c1, samples, c2, samples, c3, samples, t1, samples, t2, samples, t3, samples, counter, counters);
         if (answer.refusal != 0)
             stop_refused(argv[1], answer.refusal);
@@ -141,7 +155,7 @@ int main(int argc, char **argv)
     }
     printf("best %s\n", names[best]);
 
-    refusal = rulantip_forward(picture.width, picture.height, picture.depth, best, choices[best], places[best],
+    refusal = rulantip_forward(picture.width, picture.height, depth, depth, depth, best, choices[best], places[best],
                                c1, samples, c2, samples, c3, samples);
     if (refusal != 0)
         stop_refused("forward", refusal);
@@ -149,7 +163,7 @@ int main(int argc, char **argv)
     print_range(2, c2, samples);
     print_range(3, c3, samples);
 
-    refusal = rulantip_inverse(picture.width, picture.height, picture.depth, best, choices[best], places[best],
+    refusal = rulantip_inverse(picture.width, picture.height, depth, depth, depth, best, choices[best], places[best],
                                c1, samples, c2, samples, c3, samples);
     if (refusal != 0)
         stop_refused("inverse", refusal);

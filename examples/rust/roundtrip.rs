@@ -24,6 +24,7 @@ fn main() {
     let picture = pixmap(&file).unwrap_or_else(|refusal| stop_refused(name, refusal));
     let (width, height, depth) = (picture.width, picture.height, picture.depth);
     println!("width {width} height {height} depth {depth}");
+    let depths = [depth; 3]; // a P6 file has one for all three planes
 
     let samples = width as usize * height as usize;
     let mut planes = [(); 3].map(|()| vec![0i32; samples]);
@@ -32,12 +33,13 @@ fn main() {
 
     // Scratch: three trial planes, and counters that are enough for every transform.
     let mut trial = [(); 3].map(|()| vec![0i32; samples]);
-    let mut counters = vec![0u32; counters(depth)];
+    let most = (0..4).filter_map(|transform| counters(depths, transform)).max();
+    let mut counters = vec![0u32; most.expect("a P6 file's depth is not refused")];
 
     println!("transform filters estimate samples");
     let mut best: Option<(u32, Settings, Vec<u8>)> = None;
     for transform in 0..4 {
-        let settings = Settings { width, height, depth, transform };
+        let settings = Settings { width, height, depths, transform };
         let mut choices = vec![0u8; places(transform)];
         let scratch = Scratch { trial: trial.each_mut().map(Vec::as_mut_slice), counters: &mut counters };
         let answer = search(settings, 2, &mut choices, planes.each_ref().map(Vec::as_slice), scratch)

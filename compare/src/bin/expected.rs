@@ -18,6 +18,7 @@ expected inverse W H B T FILTERS P1 P2 P3 the picture that goes to the planes
 expected logarithms FIRST LAST        L(n), a line each
 
 FILE '-' is standard input. FILTERS and planes are numbers with commas between, as 0,12,3.
+B is the depth of all three planes.
 Planes are printed a row to a line, blanks between, one plane after the other.
 A refusal is printed as 'refused' and its number.
 
@@ -60,7 +61,8 @@ fn file(name: &str) -> Vec<u8> {
 }
 
 fn settings(words: &[&str]) -> Settings {
-    Settings { width: number(words[0]), height: number(words[1]), depth: number(words[2]), transform: number(words[3]) }
+    let [width, height, depth, transform] = [0, 1, 2, 3].map(|at| number(words[at]));
+    Settings { width, height, depths: [depth; 3], transform }
 }
 
 fn rows(width: u32, planes: &[Vec<i32>; 3]) -> String {
@@ -79,11 +81,11 @@ fn digest(plane: &[i32]) -> u32 {
 
 fn answer(words: &[&str]) -> Result<Vec<u8>, u32> {
     let generated = |settings: Settings, seed: &str| {
-        if settings.width > 8192 || settings.height > 8192 || settings.depth > 16 {
+        if settings.width > 8192 || settings.height > 8192 || settings.depths[0] > 16 {
             eprintln!("no such picture");
             exit(2)
         }
-        generator::picture(settings.width, settings.height, settings.depth, number(seed))
+        generator::picture(settings.width, settings.height, settings.depths, number(seed))
     };
     let text = match words {
         ["report", name] => reference::report(&file(name)),
@@ -96,10 +98,11 @@ fn answer(words: &[&str]) -> Result<Vec<u8>, u32> {
             let told = settings(&[w, h, b, "0"]);
             let planes = generated(told, seed);
             if words[0] == "pixmap" {
-                if !(2..=8).contains(&told.depth) {
+                let [depth, ..] = told.depths;
+                if !(2..=8).contains(&depth) {
                     usage()
                 }
-                return Ok(generator::pixmap(told.width, told.height, told.depth, &planes));
+                return Ok(generator::pixmap(told.width, told.height, depth, &planes));
             }
             rows(told.width, &planes)
         }

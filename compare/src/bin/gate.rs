@@ -25,9 +25,13 @@ fn list<T: ToString>(numbers: &[T], separator: &str) -> String {
     words.join(separator)
 }
 
-fn told(settings: Settings, filters: &[u8]) -> String {
-    let Settings { width, height, depth, transform } = settings;
-    format!("transform {transform} width {width} height {height} depth {depth} filters {}", list(filters, ","))
+fn told(settings: Settings) -> String {
+    let Settings { width, height, depths, transform } = settings;
+    format!("transform {transform} width {width} height {height} depths {}", list(&depths, " "))
+}
+
+fn told_filters(settings: Settings, filters: &[u8]) -> String {
+    format!("{} filters {}", told(settings), list(filters, ","))
 }
 
 /// The planes' numbers, with a blank before each.
@@ -60,7 +64,7 @@ fn limit(settings: Settings, filters: &[u8], planes: Planes, short: bool) {
     let finished = left(&planes, &forward);
     let inverse = reference::inverse(settings, filters, lent(&finished));
     let again = left(&finished, &inverse);
-    let told = told(settings, filters);
+    let told = told_filters(settings, filters);
     let (forward, inverse) = (answered(&forward), answered(&inverse));
     if short {
         println!("{told} forward {forward} inverse {inverse}");
@@ -74,17 +78,20 @@ fn limits() {
     for length in [8192, 8193] {
         let planes = [1, 2, 3].map(|sample| vec![sample; length as usize]);
         for (width, height) in [(length, 1), (1, length)] {
-            limit(Settings { width, height, depth: 8, transform: 0 }, &[1; 4], planes.clone(), true);
+            limit(Settings { width, height, depths: [8; 3], transform: 0 }, &[1; 4], planes.clone(), true);
         }
     }
-    let pixel = |width, height, depth, transform, filters: &[u8], samples: [i32; 3]| {
-        limit(Settings { width, height, depth, transform }, filters, samples.map(|sample| vec![sample]), false);
+    let pixel = |width, height, depths, transform, filters: &[u8], samples: [i32; 3]| {
+        limit(Settings { width, height, depths, transform }, filters, samples.map(|sample| vec![sample]), false);
     };
-    for depth in [1, 2, 16, 17] {
-        pixel(1, 1, depth, 0, &[0; 4], [3, 1, 2]);
+    for depths in [[1; 3], [2; 3], [16; 3], [17; 3], [1, 8, 8], [8, 17, 8], [8, 8, 1]] {
+        pixel(1, 1, depths, 0, &[0; 4], [3, 1, 2]);
     }
     for samples in [[255, 0, 255], [256, 0, 255], [0, 256, 0], [0, 0, -1]] {
-        pixel(1, 1, 8, 0, &[0; 4], samples);
+        pixel(1, 1, [8; 3], 0, &[0; 4], samples);
+    }
+    for samples in [[31, 63, 31], [32, 63, 31], [31, 64, 31], [31, 32, 32]] {
+        pixel(1, 1, [5, 6, 5], 0, &[0; 4], samples);
     }
     for (width, height, transform, filters) in [
         (0, 1, 0, &[0; 4][..]),
@@ -103,7 +110,7 @@ fn limits() {
         (1, 1, 0, &[0, 0, 12, 0]),
         (1, 1, 0, &[0, 0, 0, 12]),
     ] {
-        pixel(width, height, 8, transform, filters, [10, 200, 60]);
+        pixel(width, height, [8; 3], transform, filters, [10, 200, 60]);
     }
 }
 
@@ -119,10 +126,11 @@ fn compared(planes: &Planes, picture: &Planes) -> &'static str {
 /// Picture `k`: there and back, then with a finished plane's middle number replaced.
 fn picture(k: u32) {
     let (width, height) = [(1, 1), (1, 6), (7, 1), (2, 2), (3, 3), (5, 4), (4, 3)][k as usize % 7];
-    let settings = Settings { width, height, depth: 2 + k % 15, transform: k % 4 };
+    let depths = [2 + k % 15, 16 - k % 15, 2 + k / 4 % 15];
+    let settings = Settings { width, height, depths, transform: k % 4 };
     let filters = choices(settings.transform, k / 4);
-    let picture = generator::picture(width, height, settings.depth, k);
-    println!("picture {k} {}", told(settings, &filters));
+    let picture = generator::picture(width, height, depths, k);
+    println!("picture {k} {}", told_filters(settings, &filters));
 
     let forward = reference::forward(settings, &filters, lent(&picture));
     let finished = left(&picture, &forward);
@@ -154,10 +162,11 @@ fn transform_cases() {
     (0..52).for_each(picture);
 }
 
-/// A slope with the generator's noise on it, modulo M + 1.
-fn slope(samples: u32, depth: u32, noise: u32, step: u32, seed: u32) -> Planes {
+/// A slope with the generator's noise on it, modulo the plane's M + 1.
+fn slope(samples: u32, depths: [u32; 3], noise: u32, step: u32, seed: u32) -> Planes {
     let mut numbers = Congruential(seed);
-    [(); 3].map(|()| (0..samples).map(|i| ((seed + i * step + numbers.next() % noise) % (1 << depth)) as i32).collect())
+    let mut level = |i: u32| seed + i * step + numbers.next() % noise;
+    depths.map(|depth| (0..samples).map(|i| (level(i) % (1 << depth)) as i32).collect())
 }
 
 fn estimated(call: &str, filters: &[u8], answer: Result<Estimated, u32>) {
@@ -170,11 +179,9 @@ fn estimated(call: &str, filters: &[u8], answer: Result<Estimated, u32>) {
 
 /// The estimate under `filters`, and the search, with the scratch that the program lends.
 fn search(settings: Settings, [noise, step]: [u32; 2], seed: u32, rounds: u32, planes: Planes) {
-    let Settings { width, height, depth, transform } = settings;
-    print!("transform {transform} width {width} height {height} depth {depth}");
-    println!(" noise {noise} step {step} seed {seed} rounds {rounds}");
+    println!("{} noise {noise} step {step} seed {seed} rounds {rounds}", told(settings));
     let scratch = Scratch { trial: [5000; 3], counters: 1785 };
-    let filters = choices(transform, seed);
+    let filters = choices(settings.transform, seed);
     estimated("estimate", &filters, reference::estimate(settings, &filters, lent(&planes), scratch));
     match reference::search(settings, rounds, filters.len(), lent(&planes), scratch) {
         Ok(found) => estimated("search", &found.filters, Ok(found.estimated)),
@@ -187,23 +194,24 @@ fn search_cases() {
     let kinds = [[65536, 0], [1, 0], [2, 1], [1, 3], [9, 5]];
     for k in 0..45 {
         let (width, height) = sizes[k as usize % 9];
-        let settings = Settings { width, height, depth: 2 + k % 7, transform: k % 4 };
+        let depths = [2 + k % 7, 8 - k % 7, 2 + k / 4 % 7];
+        let settings = Settings { width, height, depths, transform: k % 4 };
         let [noise, step] = kinds[k as usize % 5];
-        let planes = slope(width * height, settings.depth, noise, step, k);
+        let planes = slope(width * height, depths, noise, step, k);
         search(settings, [noise, step], k, 1 + k / 4 % 4, planes);
     }
-    for (width, height, depth, transform, rounds) in [
-        (0, 3, 8, 0, 1),
-        (3, 3, 17, 0, 1),
-        (3, 3, 8, 4, 1),
-        (3, 4, 8, 0, 1),
-        (3, 3, 9, 1, 1),
-        (3, 3, 8, 0, 0),
-        (3, 3, 8, 0, 5),
-        (3, 3, 7, 0, 1),
+    for (width, height, depths, transform, rounds) in [
+        (0, 3, [8; 3], 0, 1),
+        (3, 3, [8, 8, 17], 0, 1),
+        (3, 3, [8; 3], 4, 1),
+        (3, 4, [8; 3], 0, 1),
+        (3, 3, [9; 3], 1, 1),
+        (3, 3, [8; 3], 0, 0),
+        (3, 3, [8; 3], 0, 5),
+        (3, 3, [8, 7, 8], 0, 1),
     ] {
-        let settings = Settings { width, height, depth, transform };
-        search(settings, [65536, 0], 1, rounds, slope(9, 8, 65536, 0, 1));
+        let settings = Settings { width, height, depths, transform };
+        search(settings, [65536, 0], 1, rounds, slope(9, [8; 3], 65536, 0, 1));
     }
 }
 

@@ -1,13 +1,15 @@
 //! The calls with their refusals, in the order in which they are tested.
 
-use super::{counters_needed, places, plane_estimate, run, undo, Plane, Planes, RefusalNumber, TRANSFORMS};
+use super::{are_depths, counters, greatest, places, plane_estimate, run, undo};
+use super::{Plane, Planes, RefusalNumber, TRANSFORMS};
 
 /// What every call on planes is told.
 #[derive(Clone, Copy, Debug, PartialEq, Eq)]
 pub struct Settings {
     pub width: u32,
     pub height: u32,
-    pub depth: u32,
+    /// Of planes 1, 2 and 3.
+    pub depths: [u32; 3],
     pub transform: u32,
 }
 
@@ -37,17 +39,12 @@ impl Settings {
         self.width as usize * self.height as usize
     }
 
-    /// The greatest sample, M.
-    fn greatest(&self) -> i64 {
-        (1i64 << self.depth) - 1
-    }
-
     /// Refusals 2, 5, 6 and the part of 7 on the number of choices.
     fn test(&self, choices: usize) -> Result<(), RefusalNumber> {
         if !(1..=8192).contains(&self.width) || !(1..=8192).contains(&self.height) {
             return Err(2);
         }
-        if !(2..=16).contains(&self.depth) {
+        if !are_depths(self.depths) {
             return Err(5);
         }
         if self.transform >= TRANSFORMS {
@@ -80,7 +77,7 @@ impl Settings {
     /// Refusal 9.
     fn test_scratch(&self, scratch: &Scratch) -> Result<(), RefusalNumber> {
         let planes_short = scratch.trial.iter().any(|&length| length < self.samples());
-        let counters_short = scratch.counters < counters_needed(self.transform, self.depth);
+        let counters_short = scratch.counters < counters(self.depths, self.transform);
         if planes_short || counters_short {
             Err(9)
         } else {
@@ -88,9 +85,10 @@ impl Settings {
         }
     }
 
-    /// Whether every sample of the planes is 0 to M.
+    /// Whether every sample of each plane is 0 to the plane's M.
     fn is_picture(&self, planes: &Planes) -> bool {
-        planes.iter().flatten().all(|sample| (0..=self.greatest()).contains(sample))
+        let within = |(plane, greatest): (&Plane, i64)| plane.iter().all(|sample| (0..=greatest).contains(sample));
+        planes.iter().zip(greatest(self.depths)).all(within)
     }
 
     /// Refusal 11, or the picture in whole numbers.

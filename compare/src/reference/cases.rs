@@ -3,7 +3,7 @@
 use super::*;
 
 const PIXEL: [i64; 3] = [10, 200, 60];
-const DEPTH_8: Settings = Settings { width: 1, height: 1, depth: 8, transform: 0 };
+const DEPTH_8: Settings = Settings { width: 1, height: 1, depths: [8; 3], transform: 0 };
 
 fn pixel(transform: u32, filters: &[u8]) -> [i64; 3] {
     run(transform, 1, 1, filters, PIXEL.map(|sample| vec![sample])).map(|plane| plane[0])
@@ -58,8 +58,8 @@ fn windows() {
 #[test]
 fn largest_window() {
     let planes = [-65535, -98302, 147453];
-    for (number, (low, high)) in planes.into_iter().zip(ranges(1, 16)) {
-        assert!((low..=high).contains(&number));
+    for (number, range) in planes.into_iter().zip(ranges([16; 3], 1)) {
+        assert!(range.contains(number));
     }
     let [_, _, plane] = undo(1, 3, 3, &[0; 4], planes.map(|number| vec![number; 9]));
     assert_eq!(plane, [229_372; 9]);
@@ -119,21 +119,6 @@ fn one_colour() {
 }
 
 #[test]
-fn counters() {
-    let needed = |depth| [0, 1, 2, 3].map(|transform| counters_needed(transform, depth));
-    assert_eq!(needed(8), [1021, 1785, 1021, 1531]);
-    assert_eq!(needed(16), [262_141, 458_745, 262_141, 393_211]);
-}
-
-#[test]
-fn ranges_at_depth_8() {
-    assert_eq!(ranges(0, 8), [(-255, 255), (-128, 382), (-255, 255)]);
-    assert_eq!(ranges(1, 8), [(-255, 255), (-382, 383), (-319, 573)]);
-    assert_eq!(ranges(2, 8), [(0, 255), (-255, 255), (-255, 255)]);
-    assert_eq!(ranges(3, 8), [(-127, 383), (-255, 255), (-383, 382)]);
-}
-
-#[test]
 fn planes_that_no_picture_reaches() {
     let back = |transform, filters: &[u8], planes: [i32; 3]| {
         let planes = planes.map(|sample| [sample]);
@@ -149,31 +134,13 @@ fn planes_that_no_picture_reaches() {
 fn refusals() {
     let call = |width, height, depth, sample: i32| {
         let plane = vec![sample; width as usize * height as usize];
-        forward(Settings { width, height, depth, transform: 2 }, &[0; 2], [&plane, &plane, &plane]).err()
+        let settings = Settings { width, height, depths: [depth; 3], transform: 2 };
+        forward(settings, &[0; 2], [&plane, &plane, &plane]).err()
     };
     assert_eq!(call(8192, 1, 8, 0), None);
     assert_eq!(call(8193, 1, 8, 0), Some(2));
     assert_eq!([1, 2, 16, 17].map(|depth| call(1, 1, depth, 0)), [Some(5), None, None, Some(5)]);
     assert_eq!([-1, 0, 255, 256].map(|sample| call(1, 1, 8, sample)), [Some(11), None, None, Some(11)]);
-}
-
-/// Both ways cancel on every small picture of depth 2, and the finished planes keep their ranges.
-#[test]
-fn there_and_back() {
-    for transform in 0..TRANSFORMS {
-        for filter in 0..=12 {
-            let filters = vec![filter; places(transform)];
-            for code in 0..4096i64 {
-                let sample = |place: u32| code / 4i64.pow(place) % 4;
-                let picture = [[0, 1], [2, 3], [4, 5]].map(|plane| plane.map(sample).to_vec());
-                let finished = run(transform, 2, 1, &filters, picture.clone());
-                for (plane, (low, high)) in finished.iter().zip(ranges(transform, 2)) {
-                    assert!(plane.iter().all(|sample| (low..=high).contains(sample)));
-                }
-                assert_eq!(undo(transform, 2, 1, &filters, finished), picture);
-            }
-        }
-    }
 }
 
 #[test]

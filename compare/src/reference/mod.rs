@@ -8,18 +8,22 @@ mod calls;
 mod entropy;
 mod filter;
 mod pixmap;
+mod ranges;
 mod report;
 mod transform;
 
 #[cfg(test)]
 mod cases;
+#[cfg(test)]
+mod depth_cases;
 
 pub use calls::{estimate, forward, inverse, search, Estimated, Found, Scratch, Settings};
 pub use entropy::{counted_indices, logarithm, med, plane_estimate, residual};
 pub use filter::{filtered, filtered_at, window};
 pub use pixmap::{pixmap_header, pixmap_planes, Header};
+pub use ranges::{all_depths, are_depths, counters, greatest, ranges, Interval};
 pub use report::{report, NAMES};
-pub use transform::{counters_needed, places, ranges, run, undo, TRANSFORMS};
+pub use transform::{places, run, undo, TRANSFORMS};
 
 /// A plane or three of them, in whole numbers.
 pub type Plane = Vec<i64>;

@@ -21,7 +21,7 @@ fn lines(input: &[u8]) -> Result<String, RefusalNumber> {
     let scratch = Scratch { trial: [PIXELS; 3], counters: COUNTERS };
     let mut text = String::from("transform filters estimate samples\n");
     for (transform, name) in (0..TRANSFORMS).zip(NAMES) {
-        let settings = Settings { width, height, depth, transform };
+        let settings = Settings { width, height, depths: [depth; 3], transform };
         let found = search(settings, 2, super::places(transform), planes, scratch)?;
         let filters: Vec<String> = found.filters.iter().map(u8::to_string).collect();
         let estimated = found.estimated;

@@ -1,4 +1,4 @@
-//! The four transforms, there and back, and the ranges of their finished planes.
+//! The four transforms, there and back.
 
 use super::{filtered, Plane, Planes};
 
@@ -105,24 +105,4 @@ pub fn undo(transform: u32, width: usize, height: usize, filters: &[u8], planes:
         _ => panic!("no transform {transform}"),
     }
     [c1, c2, c3]
-}
-
-/// Lowest and highest number of each finished plane.
-pub fn ranges(transform: u32, depth: u32) -> [(i64, i64); 3] {
-    let m = (1i64 << depth) - 1;
-    let h = 1i64 << (depth - 1);
-    let q = 1i64 << (depth - 2);
-    match transform {
-        0 => [(-m, m), (-h, 3 * h - 2), (-m, m)],
-        1 => [(-m, m), (-(3 * h - 2), 3 * h - 1), (-(5 * q - 1), 9 * q - 3)],
-        2 => [(0, m), (-m, m), (-m, m)],
-        3 => [(-(h - 1), 3 * h - 1), (-m, m), (-(3 * h - 1), 3 * h - 2)],
-        _ => panic!("no transform {transform}"),
-    }
-}
-
-/// How many counters the estimate and the search need: 2 × D + 1, D being the widest range.
-pub fn counters_needed(transform: u32, depth: u32) -> usize {
-    let widest = ranges(transform, depth).iter().map(|(low, high)| high - low).max().unwrap();
-    2 * widest as usize + 1
 }

@@ -3,7 +3,7 @@
 
 mod parse;
 
-use compare::reference::{counters_needed, NAMES};
+use compare::reference::{counters, NAMES};
 use parse::{c_header, constants, rattle_source, refusals, rust_module, Face};
 use std::fs;
 use std::path::{Path, PathBuf};
@@ -49,7 +49,7 @@ fn header_is_as_the_rust_module() {
     let header = c_header(&text("include/rulantip.h")).unwrap();
     let module = rust_module(&text("compare/src/library.rs")).unwrap();
     assert_eq!(header.differs(&module), None);
-    assert_eq!(header.functions.len(), 6);
+    assert_eq!(header.functions.len(), 7);
     assert_eq!(header.structs.len(), 2);
 }
 
@@ -67,7 +67,7 @@ fn constants_of_the_header() {
         let name = format!("RULANTIP_{}", name.to_uppercase().replace('-', "_"));
         assert_eq!(constants.remove(&name), Some(number), "{name}");
     }
-    let most = (0..4).map(|transform| counters_needed(transform, 16)).max().unwrap();
+    let most = (0..4).map(|transform| counters([16; 3], transform)).max().unwrap();
     assert_eq!(constants.remove("RULANTIP_COUNTERS_MAX"), Some(most as u64));
     assert!(constants.is_empty(), "not held to anything: {constants:?}");
 }

@@ -62,8 +62,8 @@ fn planes(content: &[Vec<i32>; 3], at_end: bool) -> [Edge<i32>; 3] {
 
 fn calls(random: &mut Random, at_end: bool, origin: &str) {
     let case = random::case(random, origin);
-    let reference::Settings { width, height, depth, transform } = case.settings;
-    let settings = Settings { width, height, depth, transform };
+    let reference::Settings { width, height, depths, transform } = case.settings;
+    let settings = Settings { width, height, depths, transform };
     let mut choices = Edge::new(&case.choices, at_end);
     let mut picture = planes(&case.planes, at_end);
     library::forward(settings, choices.slice(), picture.each_mut().map(Edge::slice)).expect(origin);
@@ -73,7 +73,7 @@ fn calls(random: &mut Random, at_end: bool, origin: &str) {
     }
     let exact = case.trial.each_ref().map(|plane| plane[..case.samples()].to_vec());
     let mut trial = planes(&exact, at_end);
-    let mut counters = Edge::new(&case.counters[..reference::counters_needed(transform, depth)], at_end);
+    let mut counters = Edge::new(&case.counters[..reference::counters(depths, transform)], at_end);
     let [c1, c2, c3] = picture.each_mut().map(|plane| &*plane.slice());
     let scratch = Scratch { trial: trial.each_mut().map(Edge::slice), counters: counters.slice() };
     library::estimate(settings, choices.slice(), [c1, c2, c3], scratch).expect(origin);

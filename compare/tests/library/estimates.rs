@@ -2,7 +2,7 @@
 
 use crate::random::{self, each_round, Random};
 use crate::same::Case;
-use compare::reference::{self, counters_needed, places, Scratch, Settings, TRANSFORMS};
+use compare::reference::{self, counters, greatest, places, Scratch, Settings, TRANSFORMS};
 
 #[test]
 fn random_estimates() {
@@ -42,7 +42,7 @@ fn scratch_lengths() {
         let mut exact = random::case_of(random, settings, origin);
         let samples = exact.samples();
         exact.trial.iter_mut().for_each(|plane| plane.truncate(samples));
-        exact.counters.truncate(counters_needed(settings.transform, settings.depth));
+        exact.counters.truncate(counters(settings.depths, settings.transform));
         let both = |case: &Case, number| {
             assert_eq!(case.estimate().refusal, number, "{case}");
             assert_eq!(case.search().0.refusal, number, "{case}");
@@ -68,11 +68,11 @@ fn scratch_lengths() {
 fn every_depth() {
     each_round("every_depth", 3, |random, origin| {
         for transform in 0..TRANSFORMS {
-            for depth in 2..=16 {
+            for depths in random::many_depths(random) {
                 let (width, height) = random.one_of(&[(4, 3), (1, 5), (6, 1)]);
-                let mut case = random::case_of(random, Settings { width, height, depth, transform }, origin);
-                let greatest = (1 << depth) - 1;
-                case.planes = [(); 3].map(|()| (0..case.samples()).map(|_| random.one_of(&[0, greatest])).collect());
+                let mut case = random::case_of(random, Settings { width, height, depths, transform }, origin);
+                let mut end = |greatest: i64| random.one_of(&[0, greatest as i32]);
+                case.planes = greatest(depths).map(|greatest| (0..case.samples()).map(|_| end(greatest)).collect());
                 case.estimate();
                 if random.one_in(3) {
                     case.search();
@@ -108,8 +108,8 @@ fn larger_pictures() {
     each_round("estimates::larger_pictures", 2, |random, origin| {
         for (width, height) in SIZES {
             for transform in 0..TRANSFORMS {
-                let depth = random.one_of(&[2, 8, 10, 16]);
-                let case = random::case_of(random, Settings { width, height, depth, transform }, origin);
+                let depths = random::depths(random);
+                let case = random::case_of(random, Settings { width, height, depths, transform }, origin);
                 let answer = case.estimate();
                 assert_eq!((answer.refusal, answer.samples), (0, 4096), "{case}");
             }
@@ -123,7 +123,8 @@ fn larger_searches() {
     each_round("larger_searches", 1, |random, origin| {
         for (i, (width, height)) in SIZES.into_iter().enumerate() {
             let transform = i as u32 % TRANSFORMS;
-            let mut case = random::case_of(random, Settings { width, height, depth: 8, transform }, origin);
+            let depths = random::depths_to(random, 8);
+            let mut case = random::case_of(random, Settings { width, height, depths, transform }, origin);
             case.rounds = 2;
             search_then_estimate(&case);
         }
@@ -135,7 +136,7 @@ fn larger_searches() {
 #[test]
 fn every_logarithm() {
     each_round("every_logarithm", 1, |random, origin| {
-        let settings = Settings { width: 4096, height: 1, depth: 16, transform: 2 };
+        let settings = Settings { width: 4096, height: 1, depths: [13, 16, 14], transform: 2 };
         let mut case = random::case_of(random, settings, origin);
         case.choices = vec![12; 2];
         for first in (0..=2048).step_by(3) {
@@ -163,9 +164,10 @@ fn ties() {
     each_round("ties", 600, |random, origin| {
         let width = random.one_of(&[2, 3, 4]);
         let height = random.one_of(&[1, 2, 3]);
-        let depth = random.one_of(&[2, 3, 8]);
+        let most = random.one_of(&[2, 3, 8]);
+        let depths = random::depths_to(random, most);
         let transform = random.below(TRANSFORMS as usize) as u32;
-        let case = random::case_of(random, Settings { width, height, depth, transform }, origin);
+        let case = random::case_of(random, Settings { width, height, depths, transform }, origin);
         let (one, two) = tie_kinds(&case);
         stays += one;
         shared += two;

@@ -2,7 +2,7 @@
 
 use crate::random::{self, each_round, Random};
 use crate::same::Case;
-use compare::reference::{places, ranges, undo, window, Settings, TRANSFORMS};
+use compare::reference::{places, ranges, undo, window, Interval, Settings, TRANSFORMS};
 
 /// A case whose planes some picture goes to.
 fn reached(random: &mut Random, origin: &str) -> Case {
@@ -63,8 +63,9 @@ fn planes_by_range() {
         let mut case = random::case(random, origin);
         let beyond = random.one_of(&[0, 0, 1, 1000, 1 << 20]);
         let at_ends = random.one_in(3);
-        for (plane, (low, high)) in case.planes.iter_mut().zip(ranges(case.settings.transform, case.settings.depth)) {
-            let (low, high) = (low - beyond, high + beyond);
+        let Settings { depths, transform, .. } = case.settings;
+        for (plane, range) in case.planes.iter_mut().zip(ranges(depths, transform)) {
+            let (low, high) = (range.low - beyond, range.high + beyond);
             for sample in plane {
                 let number = if at_ends { random.one_of(&[low, high]) } else { random.between(low, high) };
                 *sample = number as i32;
@@ -92,9 +93,9 @@ fn samples_a_power_of_two_away() {
 fn range_ends_of_one_pixel() {
     each_round("range_ends_of_one_pixel", 1, |random, origin| {
         for transform in 0..TRANSFORMS {
-            for depth in 2..=16 {
-                let settings = Settings { width: 1, height: 1, depth, transform };
-                let ends = ranges(transform, depth).map(|(low, high)| [low - 1, low, 0, high, high + 1]);
+            for depths in random::many_depths(random) {
+                let settings = Settings { width: 1, height: 1, depths, transform };
+                let ends = ranges(depths, transform).map(|Interval { low, high }| [low - 1, low, 0, high, high + 1]);
                 for nulls in 0..1u32 << places(transform) {
                     let mut case = random::case_of(random, settings, origin);
                     case.set_nulls(nulls, || 0);
@@ -112,25 +113,28 @@ fn range_ends_of_one_pixel() {
 }
 
 /// One number for each plane, at the ends of the ranges: all eight sets.
-fn corners(transform: u32, depth: u32) -> [[i64; 3]; 8] {
-    let ends = ranges(transform, depth).map(|(low, high)| [low, high]);
+fn corners(depths: [u32; 3], transform: u32) -> [[i64; 3]; 8] {
+    let ends = ranges(depths, transform).map(|range| [range.low, range.high]);
     [0, 1, 2, 3, 4, 5, 6, 7].map(|code| [0, 1, 2].map(|plane| ends[plane][code >> plane & 1]))
 }
 
-/// Planes of one number each, at the ends of their ranges at depth 16, with every filter and every set of null places.
+/// Planes of one number each, at the ends of their ranges where a plane has 16 bits, with every filter and every set of
+/// null places.
 #[test]
 fn large_window_sums() {
     each_round("large_window_sums", 1, |random, origin| {
         for transform in 0..TRANSFORMS {
             for nulls in 0..1u32 << places(transform) {
                 for filter in 0..12 {
-                    let settings = Settings { width: 4, height: 3, depth: 16, transform };
-                    let mut case = random::case_of(random, settings, origin);
-                    case.set_nulls(nulls, || filter);
-                    for numbers in corners(transform, 16) {
-                        case.planes = numbers.map(|number| vec![number as i32; case.samples()]);
-                        case.inverse();
-                        sums_fit(&case);
+                    for depths in [[16; 3], random.one_of(&[[2, 16, 16], [16, 2, 16], [16, 16, 2], [2, 16, 2]])] {
+                        let settings = Settings { width: 4, height: 3, depths, transform };
+                        let mut case = random::case_of(random, settings, origin);
+                        case.set_nulls(nulls, || filter);
+                        for numbers in corners(depths, transform) {
+                            case.planes = numbers.map(|number| vec![number as i32; case.samples()]);
+                            case.inverse();
+                            sums_fit(&case);
+                        }
                     }
                 }
             }

@@ -1,7 +1,7 @@
 //! Random cases, each from a seed that repeats it.
 
 use crate::same::Case;
-use compare::reference::{counters_needed, places, Settings, TRANSFORMS};
+use compare::reference::{counters, greatest, places, Settings, TRANSFORMS};
 use std::env;
 
 /// Numbers by SplitMix64.
@@ -59,10 +59,33 @@ fn side(random: &mut Random) -> u32 {
     1 + random.below(limit) as u32
 }
 
+/// Depths from 2 to `most`: often equal; else of any kind, or the ends of the range beside each other.
+pub fn depths_to(random: &mut Random, most: u32) -> [u32; 3] {
+    let equal = random.between(2, most.into()) as u32;
+    match random.below(6) {
+        0..=2 => [equal; 3],
+        3 => [(); 3].map(|()| random.one_of(&[2, most])),
+        _ => [(); 3].map(|()| random.between(2, most.into()) as u32),
+    }
+}
+
+/// Depths of any kind, with those of textures and of common pictures among them.
+pub fn depths(random: &mut Random) -> [u32; 3] {
+    match random.below(8) {
+        0 => random.one_of(&[[5, 6, 5], [8; 3], [16; 3]]),
+        _ => depths_to(random, 16),
+    }
+}
+
+/// Every depth for all planes, and as many depths of any kind.
+pub fn many_depths(random: &mut Random) -> Vec<[u32; 3]> {
+    (2..=16).flat_map(|depth| [[depth; 3], depths(random)]).collect()
+}
+
 pub fn settings(random: &mut Random) -> Settings {
     let (width, height) = (side(random), side(random));
-    let depth = random.one_of(&[2, 3, 4, 5, 6, 7, 8, 8, 9, 10, 11, 12, 13, 14, 15, 16, 16]);
-    Settings { width, height, depth, transform: random.below(TRANSFORMS as usize) as u32 }
+    let depths = depths(random);
+    Settings { width, height, depths, transform: random.below(TRANSFORMS as usize) as u32 }
 }
 
 /// Choices: all of any kind, one filter everywhere, or one place alone.
@@ -82,15 +105,16 @@ pub fn choices(random: &mut Random, places: usize) -> Vec<u8> {
 /// A picture's samples: noise, extremes, stripes, slopes, nearly flat, with planes alike or not.
 pub fn picture(random: &mut Random, settings: Settings) -> [Vec<i32>; 3] {
     let (width, height) = (settings.width as i64, settings.height as i64);
-    let greatest = (1i64 << settings.depth) - 1;
+    let [highest, ..] = greatest(settings.depths);
     let alike = random.one_in(3);
-    let first = plane(random, width, height, greatest);
-    [(); 3].map(|()| {
+    let first = plane(random, width, height, highest);
+    greatest(settings.depths).map(|greatest| {
         if !alike {
             return plane(random, width, height, greatest);
         }
         let noise = random.one_of(&[0, 1, 3]);
-        first.iter().map(|&sample| (i64::from(sample) + random.between(0, noise)).min(greatest) as i32).collect()
+        let scaled = |sample: i32| i64::from(sample) * (greatest + 1) / (highest + 1);
+        first.iter().map(|&sample| (scaled(sample) + random.between(0, noise)).min(greatest) as i32).collect()
     })
 }
 
@@ -130,7 +154,7 @@ pub fn case_of(random: &mut Random, settings: Settings, origin: &str) -> Case {
     let mut longer = |needed: usize| needed + if random.one_in(2) { 0 } else { random.below(20) };
     let samples = settings.width as usize * settings.height as usize;
     let lengths = [longer(samples), longer(samples), longer(samples)];
-    let counters = longer(counters_needed(settings.transform, settings.depth));
+    let counters = longer(counters(settings.depths, settings.transform));
     Case {
         settings,
         rounds: 1 + random.below(4) as u32,

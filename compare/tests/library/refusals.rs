@@ -3,7 +3,7 @@
 use crate::library::c;
 use crate::random::{self, each_round, Random};
 use crate::same::Case;
-use compare::reference::{counters_needed, places, Settings, TRANSFORMS};
+use compare::reference::{counters, greatest, places, Settings, TRANSFORMS};
 use std::ptr::null_mut;
 
 /// A fault and the refusal that it causes.
@@ -42,7 +42,10 @@ fn faults(call: Call, case: &Case) -> Vec<Fault> {
     }
     add(2, Box::new(|case| (case.settings.width, case.settings.height) = (65_536, 65_536)));
     for depth in [0, 1, 17, 31, 32, 34, 256 + 8, u32::MAX] {
-        add(5, Box::new(move |case| case.settings.depth = depth));
+        add(5, Box::new(move |case| case.settings.depths = [depth; 3]));
+        for plane in 0..3 {
+            add(5, Box::new(move |case| case.settings.depths[plane] = depth));
+        }
     }
     for transform in [4, 5, 256, 1 << 16, u32::MAX] {
         add(6, Box::new(move |case| case.settings.transform = transform));
@@ -66,7 +69,7 @@ fn faults(call: Call, case: &Case) -> Vec<Fault> {
         add(8, Box::new(move |case| case.planes[plane].clear()));
     }
     if matches!(call, Call::Estimate | Call::Search) {
-        let (samples, needed) = (case.samples(), counters_needed(case.settings.transform, case.settings.depth));
+        let (samples, needed) = (case.samples(), counters(case.settings.depths, case.settings.transform));
         for plane in 0..3 {
             add(9, Box::new(move |case| case.trial[plane].truncate(samples - 1)));
             add(9, Box::new(move |case| case.trial[plane].clear()));
@@ -79,13 +82,12 @@ fn faults(call: Call, case: &Case) -> Vec<Fault> {
             add(10, Box::new(move |case| case.rounds = rounds));
         }
     }
-    let greatest = (1 << case.settings.depth) - 1;
-    let (number, samples): (u32, &[i32]) = match call {
-        Call::Inverse => (12, &[i32::MIN, i32::MAX, 1 << 20]),
-        _ => (11, &[-1, greatest + 1, i32::MIN, i32::MAX]),
-    };
-    for &sample in samples {
-        for plane in 0..3 {
+    for (plane, greatest) in greatest(case.settings.depths).into_iter().enumerate() {
+        let (number, samples) = match call {
+            Call::Inverse => (12, [i32::MIN, i32::MAX, 1 << 20, -(1 << 20)]),
+            _ => (11, [-1, greatest as i32 + 1, i32::MIN, i32::MAX]),
+        };
+        for sample in samples {
             let set = move |sample_at: Option<&mut i32>| sample_at.into_iter().for_each(|at| *at = sample);
             add(number, Box::new(move |case| set(case.planes[plane].first_mut())));
             add(number, Box::new(move |case| set(case.planes[plane].last_mut())));
@@ -96,8 +98,8 @@ fn faults(call: Call, case: &Case) -> Vec<Fault> {
 
 /// A case with no fault for the call. Two pixels, so that every length can be short and not empty.
 fn sound(random: &mut Random, call: Call, transform: u32, origin: &str) -> Case {
-    let depth = random.one_of(&[2, 5, 8]);
-    let mut case = random::case_of(random, Settings { width: 2, height: 1, depth, transform }, origin);
+    let depths = random.one_of(&[[2; 3], [5; 3], [8; 3], [5, 6, 5], [8, 2, 5], [2, 9, 3]]);
+    let mut case = random::case_of(random, Settings { width: 2, height: 1, depths, transform }, origin);
     if call == Call::Inverse {
         case.planes = case.forward().1;
     }
@@ -148,11 +150,19 @@ fn several_faults() {
 #[test]
 fn limits_pass() {
     each_round("limits_pass", 1, |random, origin| {
-        for (width, height, depth) in [(8192, 1, 8), (1, 8192, 8), (1, 1, 2), (1, 1, 16)] {
+        for (width, height, depths) in [
+            (8192, 1, [8; 3]),
+            (1, 8192, [8; 3]),
+            (1, 1, [2; 3]),
+            (1, 1, [16; 3]),
+            (1, 1, [2, 16, 2]),
+            (1, 1, [16, 2, 16]),
+        ] {
             for transform in 0..TRANSFORMS {
-                let mut case = random::case_of(random, Settings { width, height, depth, transform }, origin);
+                let mut case = random::case_of(random, Settings { width, height, depths, transform }, origin);
                 case.choices = vec![12; places(transform)];
-                case.planes = [(1 << depth) - 1, 0, (1 << depth) - 1].map(|sample| vec![sample; case.samples()]);
+                let [highest1, _, highest3] = greatest(depths);
+                case.planes = [highest1, 0, highest3].map(|sample| vec![sample as i32; case.samples()]);
                 assert_eq!(case.forward().0, 0, "{case}");
                 assert_eq!(case.estimate().refusal, 0, "{case}");
                 for rounds in if case.samples() == 1 { 1..=4 } else { 1..=1 } {
@@ -178,6 +188,7 @@ fn search_ignores_lent_choices() {
 
 /// Null pointers of length 0 are allowed everywhere.
 #[test]
+#[rustfmt::skip]
 fn null_pointers() {
     let none32 = null_mut::<i32>();
     let choices = [0u8; 4];
@@ -190,34 +201,16 @@ fn null_pointers() {
     // SAFETY: every pointer points to as many elements as said, and no two overlap.
     unsafe {
         for call in [c::rulantip_forward, c::rulantip_inverse] {
-            assert_eq!(call(0, 1, 8, 0, null_mut(), 0, none32, 0, none32, 0, none32, 0), 2);
-            assert_eq!(call(1, 1, 8, 0, null_mut(), 0, none32, 0, none32, 0, none32, 0), 7);
-            assert_eq!(call(1, 1, 8, 0, choice, 4, none32, 0, none32, 0, none32, 0), 8);
+            assert_eq!(call(0, 1, 5, 6, 5, 0, null_mut(), 0, none32, 0, none32, 0, none32, 0), 2);
+            assert_eq!(call(1, 1, 5, 6, 5, 0, null_mut(), 0, none32, 0, none32, 0, none32, 0), 7);
+            assert_eq!(call(1, 1, 5, 6, 5, 0, choice, 4, none32, 0, none32, 0, none32, 0), 8);
         }
         let estimate = |choices, count, plane, samples, t1, t2, t3, trial| {
-            c::rulantip_estimate(
-                1,
-                1,
-                8,
-                0,
-                choices,
-                count,
-                plane,
-                samples,
-                plane,
-                samples,
-                plane,
-                samples,
-                t1,
-                trial,
-                t2,
-                trial,
-                t3,
-                trial,
-                null_mut(),
-                0,
-            )
-            .refusal
+            let answer = c::rulantip_estimate(
+                1, 1, 5, 6, 5, 0, choices, count, plane, samples, plane, samples, plane, samples,
+                t1, trial, t2, trial, t3, trial, null_mut(), 0,
+            );
+            answer.refusal
         };
         assert_eq!(estimate(null_mut(), 0, none32 as *const i32, 0, none32, none32, none32, 0), 7);
         assert_eq!(estimate(choice, 4, none32 as *const i32, 0, none32, none32, none32, 0), 8);
@@ -226,30 +219,11 @@ fn null_pointers() {
         let mut search = |count: usize, samples: usize| {
             let choices = if count == 0 { null_mut() } else { found.as_mut_ptr() };
             let plane = if samples == 0 { none32 as *const i32 } else { p };
-            c::rulantip_search(
-                1,
-                1,
-                8,
-                0,
-                1,
-                choices,
-                count,
-                plane,
-                samples,
-                plane,
-                samples,
-                plane,
-                samples,
-                none32,
-                0,
-                none32,
-                0,
-                none32,
-                0,
-                null_mut(),
-                0,
-            )
-            .refusal
+            let answer = c::rulantip_search(
+                1, 1, 5, 6, 5, 0, 1, choices, count, plane, samples, plane, samples, plane, samples,
+                none32, 0, none32, 0, none32, 0, null_mut(), 0,
+            );
+            answer.refusal
         };
         assert_eq!([search(0, 0), search(4, 0), search(4, 1)], [7, 8, 9]);
         assert_eq!(c::rulantip_p6_header(null_mut(), 0).refusal, 1);

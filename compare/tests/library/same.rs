@@ -22,9 +22,9 @@ pub struct Case {
 
 impl fmt::Display for Case {
     fn fmt(&self, f: &mut fmt::Formatter<'_>) -> fmt::Result {
-        let Settings { width, height, depth, transform } = self.settings;
+        let Settings { width, height, depths, transform } = self.settings;
         writeln!(f, "{}", self.origin)?;
-        writeln!(f, "width {width} height {height} depth {depth} transform {transform} rounds {}", self.rounds)?;
+        writeln!(f, "width {width} height {height} depths {depths:?} transform {transform} rounds {}", self.rounds)?;
         writeln!(f, "choices {:?} alignment {}", self.choices, self.alignment)?;
         writeln!(f, "trial planes {:?} counters {}", self.trial.each_ref().map(Vec::len), self.counters.len())?;
         for (plane, number) in self.planes.iter().zip(1..) {
@@ -83,12 +83,12 @@ impl Case {
     fn in_place(&self, name: &str, call: InPlace, expected: Result<[Vec<i32>; 3], u32>) -> (u32, [Vec<i32>; 3]) {
         let mut choices = Lent::new(&self.choices, self.alignment);
         let [mut c1, mut c2, mut c3] = self.lent_planes();
-        let Settings { width, height, depth, transform } = self.settings;
+        let Settings { width, height, depths: [depth1, depth2, depth3], transform } = self.settings;
         // SAFETY: every pointer points to as many elements as said, and no two overlap.
         #[rustfmt::skip]
         let answer = unsafe {
             call(
-                width, height, depth, transform,
+                width, height, depth1, depth2, depth3, transform,
                 choices.pointer(), choices.len(),
                 c1.pointer(), c1.len(), c2.pointer(), c2.len(), c3.pointer(), c3.len(),
             )
@@ -136,13 +136,13 @@ impl Case {
         let [mut c1, mut c2, mut c3] = self.lent_planes();
         let [mut t1, mut t2, mut t3] = [0, 1, 2].map(|i| Lent::new(&self.trial[i], self.alignment + 2 * i));
         let mut counters = Lent::new(&self.counters, self.alignment + 5);
-        let Settings { width, height, depth, transform } = self.settings;
+        let Settings { width, height, depths: [depth1, depth2, depth3], transform } = self.settings;
         // SAFETY: every pointer points to as many elements as said, and no two overlap.
         #[rustfmt::skip]
         let answer = unsafe {
             if search {
                 c::rulantip_search(
-                    width, height, depth, transform, self.rounds,
+                    width, height, depth1, depth2, depth3, transform, self.rounds,
                     choices.pointer(), choices.len(),
                     c1.pointer(), c1.len(), c2.pointer(), c2.len(), c3.pointer(), c3.len(),
                     t1.pointer(), t1.len(), t2.pointer(), t2.len(), t3.pointer(), t3.len(),
@@ -150,7 +150,7 @@ impl Case {
                 )
             } else {
                 c::rulantip_estimate(
-                    width, height, depth, transform,
+                    width, height, depth1, depth2, depth3, transform,
                     choices.pointer(), choices.len(),
                     c1.pointer(), c1.len(), c2.pointer(), c2.len(), c3.pointer(), c3.len(),
                     t1.pointer(), t1.len(), t2.pointer(), t2.len(), t3.pointer(), t3.len(),

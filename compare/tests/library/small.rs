@@ -4,64 +4,101 @@
 use crate::lent::{Lent, Word};
 use crate::library::c;
 use crate::random::{self, each_round};
-use crate::same::Case;
-use compare::reference::{places, ranges, run, Settings, TRANSFORMS};
+use compare::reference::{greatest, places, ranges, run, Interval, Settings, TRANSFORMS};
+use std::array::from_fn;
 use std::collections::HashMap;
 
-const DEPTH: u32 = 2;
+/// Three planes of N samples.
+type Planes<const N: usize> = [[i32; N]; 3];
 
-/// Which picture of one pixel goes to which planes.
-fn reached_pixels(transform: u32, filters: &[u8]) -> HashMap<[i32; 3], [i32; 3]> {
-    let mut pictures = HashMap::new();
-    for code in 0..64 {
-        let picture = [code / 16, code / 4 % 4, code % 4];
-        let finished = run(transform, 1, 1, filters, picture.map(|sample| vec![i64::from(sample)]));
-        assert_eq!(pictures.insert(finished.map(|plane| plane[0] as i32), picture), None);
+/// Every plane in the range.
+fn all_planes<const N: usize>(range: Interval) -> Vec<[i32; N]> {
+    let numbers = range.width() + 1;
+    let sample = |code: i64, i: usize| (range.low + code / numbers.pow(i as u32) % numbers) as i32;
+    (0..numbers.pow(N as u32)).map(|code| from_fn(|i| sample(code, i))).collect()
+}
+
+/// Every three planes in the ranges.
+fn each_planes<const N: usize>(ranges: [Interval; 3], mut with: impl FnMut(Planes<N>)) {
+    let [all1, all2, all3] = ranges.map(all_planes);
+    for &c1 in &all1 {
+        for &c2 in &all2 {
+            for &c3 in &all3 {
+                with([c1, c2, c3]);
+            }
+        }
     }
+}
+
+/// Which picture goes to which planes.
+fn reached<const N: usize>(settings: Settings, filters: &[u8]) -> HashMap<Planes<N>, Planes<N>> {
+    let Settings { width, height, depths, transform } = settings;
+    let mut pictures = HashMap::new();
+    each_planes(greatest(depths).map(|high| Interval { low: 0, high }), |picture: Planes<N>| {
+        let whole = picture.map(|plane| plane.map(i64::from).to_vec());
+        let finished = run(transform, width as usize, height as usize, filters, whole);
+        let finished = finished.map(|plane| from_fn(|i| plane[i] as i32));
+        assert_eq!(pictures.insert(finished, picture), None);
+    });
     pictures
 }
 
-/// One pixel, depth 2, every choice of filters, every plane within the ranges and just outside.
+/// Three planes, each between guard words.
+fn guarded<const N: usize>(planes: Planes<N>) -> [[[i32; N]; 3]; 3] {
+    let guards = |part: usize| from_fn(|i| i32::guard(part * N + i));
+    from_fn(|plane| [guards(2 * plane), planes[plane], guards(2 * plane + 1)])
+}
+
+/// The inverse on every three planes within the ranges, and outside by up to `beyond`.
+fn every_inverse<const N: usize>(settings: Settings, filters: &[u8], beyond: i64, origin: &str) {
+    let Settings { width, height, depths, transform } = settings;
+    let [b1, b2, b3] = depths;
+    let pictures = reached::<N>(settings, filters);
+    let mut choices = Lent::new(filters, N);
+    let (choice, count) = (choices.pointer(), choices.len());
+    let around = |range: Interval| Interval { low: range.low - beyond, high: range.high + beyond };
+    let mut accepted = 0;
+    each_planes(ranges(depths, transform).map(around), |planes: Planes<N>| {
+        let mut lent = guarded(planes);
+        let memory: *mut i32 = lent.as_mut_ptr().cast();
+        // SAFETY: each pointer points to as many elements as said, and no two overlap.
+        let answer = unsafe {
+            let [c1, c2, c3] = [1, 4, 7].map(|part| memory.add(part * N));
+            c::rulantip_inverse(width, height, b1, b2, b3, transform, choice, count, c1, N, c2, N, c3, N)
+        };
+        let picture = pictures.get(&planes);
+        accepted += usize::from(picture.is_some());
+        let (number, after) = picture.map_or((12, planes), |picture| (0, *picture));
+        assert!(
+            answer == number && lent == guarded(after),
+            "{settings:?}, filters {filters:?}, planes {planes:?}: answer {answer} and memory {lent:?}, \
+             expected {number} and {:?}\n{origin}",
+            guarded(after)
+        );
+    });
+    assert_eq!(choices.differs("choices", filters), None);
+    assert_eq!(accepted, 1 << (N as u32 * (b1 + b2 + b3)), "every picture's planes lie within the ranges\n{origin}");
+}
+
+/// Every choice of the filters for the places.
+fn all_choices(filters: &[u8], places: usize) -> impl Iterator<Item = Vec<u8>> + '_ {
+    let choice = move |code: usize, place: usize| filters[code / filters.len().pow(place as u32) % filters.len()];
+    (0..filters.len().pow(places as u32)).map(move |code| (0..places).map(|place| choice(code, place)).collect())
+}
+
+/// One pixel with every choice of filters at depth 2. At unequal depths a mean, the sample itself and null: of one pixel
+/// every mean is the sample.
 fn one_pixel(transform: u32) {
-    let places = places(transform);
-    let [range1, range2, range3] = ranges(transform, DEPTH).map(|(low, high)| low as i32 - 1..=high as i32 + 1);
-    // Three planes of one sample, each between guard words.
-    let guards: [i32; 9] = std::array::from_fn(i32::guard);
-    let memory = |[c1, c2, c3]: [i32; 3]| {
-        let [a, _, b, d, _, e, f, _, g] = guards;
-        [a, c1, b, d, c2, e, f, c3, g]
+    const UNEQUAL: [[u32; 3]; 8] =
+        [[2, 2, 3], [2, 3, 2], [3, 2, 2], [2, 3, 3], [3, 2, 3], [3, 3, 2], [2, 4, 3], [4, 2, 3]];
+    let every: Vec<u8> = (0..=12).collect();
+    let all = |depths, filters: &[u8]| {
+        let settings = Settings { width: 1, height: 1, depths, transform };
+        all_choices(filters, places(transform)).for_each(|filters| every_inverse::<1>(settings, &filters, 1, ""));
     };
-    for code in 0..13usize.pow(places as u32) {
-        let filters: Vec<u8> = (0..places).map(|place| (code / 13usize.pow(place as u32) % 13) as u8).collect();
-        let mut choices = Lent::new(&filters, code);
-        let pictures = reached_pixels(transform, &filters);
-        let mut accepted = 0;
-        for c1 in range1.clone() {
-            for c2 in range2.clone() {
-                for c3 in range3.clone() {
-                    let planes = [c1, c2, c3];
-                    let mut lent = memory(planes);
-                    let pointer = lent.as_mut_ptr();
-                    // SAFETY: each pointer points to as many elements as said, and no two overlap.
-                    let answer = unsafe {
-                        let [c1, c2, c3] = [1, 4, 7].map(|at| pointer.add(at));
-                        c::rulantip_inverse(1, 1, DEPTH, transform, choices.pointer(), places, c1, 1, c2, 1, c3, 1)
-                    };
-                    let picture = pictures.get(&planes);
-                    accepted += usize::from(picture.is_some());
-                    let expected = picture.map_or((12, planes), |picture| (0, *picture));
-                    assert!(
-                        answer == expected.0 && lent == memory(expected.1),
-                        "1 by 1, depth {DEPTH}, transform {transform}, filters {filters:?}, planes {planes:?}: \
-                         answer {answer} and memory {lent:?}, expected {} and {:?}",
-                        expected.0,
-                        memory(expected.1)
-                    );
-                }
-            }
-        }
-        assert_eq!(choices.differs("choices", &filters), None);
-        assert_eq!(accepted, 64, "every picture's planes lie within the ranges");
+    all([2; 3], &every);
+    for depths in UNEQUAL {
+        all(depths, &[0, 5, 12]);
     }
 }
 
@@ -85,48 +122,16 @@ fn one_pixel_ldgeb() {
     one_pixel(3);
 }
 
-/// Every plane of two samples from `low` to `high`.
-fn all_planes(low: i64, high: i64) -> Vec<Vec<i32>> {
-    let second = |first: i64| (low..=high).map(move |second| vec![first as i32, second as i32]);
-    (low..=high).flat_map(second).collect()
-}
-
-/// Which picture of two pixels goes to which planes.
-fn reached(case: &Case) -> HashMap<[Vec<i32>; 3], [Vec<i32>; 3]> {
-    let Settings { width, height, transform, .. } = case.settings;
-    let all = all_planes(0, 3);
-    let mut pictures = HashMap::new();
-    for code in 0..16 * 16 * 16 {
-        let picture = [code / 256, code / 16 % 16, code % 16].map(|plane| all[plane].clone());
-        let whole = picture.each_ref().map(|plane| plane.iter().map(|&sample| i64::from(sample)).collect());
-        let finished = run(transform, width as usize, height as usize, &case.choices, whole);
-        let finished = finished.map(|plane| plane.into_iter().map(|sample| sample as i32).collect());
-        assert_eq!(pictures.insert(finished, picture), None);
-    }
-    pictures
-}
-
-/// Two pixels, depth 2, some choices of filters, every plane within the ranges.
+/// Two pixels with some choices of filters.
 #[test]
 fn two_pixels() {
     each_round("two_pixels", 3, |random, origin| {
         for transform in 0..TRANSFORMS {
-            let (width, height) = random.one_of(&[(2, 1), (1, 2)]);
-            let mut case = random::case_of(random, Settings { width, height, depth: DEPTH, transform }, origin);
-            let pictures = reached(&case);
-            let [all1, all2, all3] = ranges(transform, DEPTH).map(|(low, high)| all_planes(low, high));
-            let mut accepted = 0;
-            for c1 in &all1 {
-                for c2 in &all2 {
-                    for c3 in &all3 {
-                        case.planes = [c1, c2, c3].map(|plane| plane.clone());
-                        let picture = pictures.get(&case.planes);
-                        accepted += usize::from(picture.is_some());
-                        case.inverse_as(picture.cloned().ok_or(12));
-                    }
-                }
+            for depths in [[2; 3], random.one_of(&[[2, 2, 3], [2, 3, 2], [3, 2, 2]])] {
+                let (width, height) = random.one_of(&[(2, 1), (1, 2)]);
+                let filters = random::choices(random, places(transform));
+                every_inverse::<2>(Settings { width, height, depths, transform }, &filters, 0, origin);
             }
-            assert_eq!(accepted, pictures.len(), "every picture's planes lie within the ranges\n{case}");
         }
     });
 }

@@ -23,8 +23,9 @@ impl Known {
         let scratch = Scratch { trial: case.trial.each_ref().map(Vec::len), counters: case.counters.len() };
         let finished = reference::forward(case.settings, &case.choices, planes).unwrap();
         let found = reference::search(case.settings, case.rounds, case.choices.len(), planes, scratch).unwrap();
-        let Settings { width, height, depth, .. } = case.settings;
-        let file = generator::pixmap(width, height, depth, &case.planes);
+        let Settings { width, height, depths, .. } = case.settings;
+        let deepest = depths.into_iter().max().unwrap();
+        let file = generator::pixmap(width, height, deepest, &case.planes);
         Known { finished, found: (found.filters, found.estimated), file, case }
     }
 
@@ -48,7 +49,7 @@ fn sixteen_threads() {
                 let settings = Settings {
                     width: 20 + random.below(20) as u32,
                     height: 20 + random.below(20) as u32,
-                    depth: 2 + random.below(7) as u32,
+                    depths: random::depths_to(random, 8),
                     transform: number as u32 % 4,
                 };
                 let mut case = random::case_of(random, settings, origin);

@@ -2,7 +2,7 @@
 
 use crate::random::{self, each_round, Random};
 use crate::same::Case;
-use compare::reference::{places, Settings, TRANSFORMS};
+use compare::reference::{greatest, places, Settings, TRANSFORMS};
 
 /// Forward as the reference, and back to the picture.
 fn there_and_back(case: &Case) {
@@ -23,8 +23,8 @@ fn every_size() {
         for width in 1..=20 {
             for height in 1..=20 {
                 for transform in 0..TRANSFORMS {
-                    let depth = 2 + random.below(15) as u32;
-                    let settings = Settings { width, height, depth, transform };
+                    let depths = random::depths(random);
+                    let settings = Settings { width, height, depths, transform };
                     there_and_back(&random::case_of(random, settings, origin));
                 }
             }
@@ -40,8 +40,8 @@ fn every_filter_at_every_place() {
             for place in 0..places(transform) {
                 for filter in 0..=12 {
                     for (width, height) in SIZES {
-                        let depth = 2 + random.below(15) as u32;
-                        let mut case = random::case_of(random, Settings { width, height, depth, transform }, origin);
+                        let depths = random::depths(random);
+                        let mut case = random::case_of(random, Settings { width, height, depths, transform }, origin);
                         case.choices[place] = filter;
                         there_and_back(&case);
                     }
@@ -70,8 +70,8 @@ fn every_set_of_null_places() {
         for transform in 0..TRANSFORMS {
             for nulls in 0..1u32 << places(transform) {
                 for (width, height) in SIZES {
-                    let depth = 2 + random.below(15) as u32;
-                    let mut case = random::case_of(random, Settings { width, height, depth, transform }, origin);
+                    let depths = random::depths(random);
+                    let mut case = random::case_of(random, Settings { width, height, depths, transform }, origin);
                     case.set_nulls(nulls, || random.below(12) as u8);
                     there_and_back(&case);
                 }
@@ -84,17 +84,17 @@ fn every_set_of_null_places() {
 #[test]
 fn extreme_samples() {
     each_round("extreme_samples", 2, |random, origin| {
-        for depth in 2..=16 {
+        for depths in random::many_depths(random) {
             for transform in 0..TRANSFORMS {
                 for filter in 0..=12 {
-                    let settings = Settings { width: 9, height: 7, depth, transform };
+                    let settings = Settings { width: 9, height: 7, depths, transform };
                     let mut case = random::case_of(random, settings, origin);
                     if random.one_in(2) {
                         case.choices = vec![filter; places(transform)];
                     } else {
                         case.choices[random.below(places(transform))] = filter;
                     }
-                    case.planes = extremes(random, (1 << depth) - 1, case.samples());
+                    case.planes = extremes(random, depths, case.samples());
                     there_and_back(&case);
                 }
             }
@@ -102,8 +102,9 @@ fn extreme_samples() {
     });
 }
 
-fn extremes(random: &mut Random, greatest: i32, samples: usize) -> [Vec<i32>; 3] {
-    [(); 3].map(|()| {
+fn extremes(random: &mut Random, depths: [u32; 3], samples: usize) -> [Vec<i32>; 3] {
+    greatest(depths).map(|greatest| {
+        let greatest = greatest as i32;
         let kind = random.below(4);
         let sample = |i: usize| match kind {
             0 => 0,
@@ -122,8 +123,8 @@ fn larger_pictures() {
     each_round("larger_pictures", 1, |random, origin| {
         for (width, height) in SIZES {
             for transform in 0..TRANSFORMS {
-                let depth = random.one_of(&[8, 12, 16]);
-                there_and_back(&random::case_of(random, Settings { width, height, depth, transform }, origin));
+                let depths = random::depths(random);
+                there_and_back(&random::case_of(random, Settings { width, height, depths, transform }, origin));
             }
         }
     });

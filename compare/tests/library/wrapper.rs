@@ -2,7 +2,7 @@
 
 use crate::library::{self, Estimated, Refusal, Scratch, Settings};
 
-const SETTINGS: Settings = Settings { width: 2, height: 1, depth: 8, transform: 2 };
+const SETTINGS: Settings = Settings { width: 2, height: 1, depths: [5, 7, 4], transform: 2 };
 const PICTURE: [[i32; 2]; 3] = [[10, 20], [100, 101], [7, 9]];
 const FINISHED: [[i32; 2]; 3] = [[10, 20], [-85, -86], [94, 92]];
 
@@ -23,9 +23,11 @@ fn planes_of(file: &[u8]) -> Result<[[i32; 1]; 3], Refusal> {
 fn transforms() {
     assert_eq!(forward(SETTINGS, &[1, 1], PICTURE), Ok(FINISHED));
     assert_eq!(inverse(&[1, 1], FINISHED), Ok(PICTURE));
-    assert_eq!(inverse(&[1, 1], [[0, 0], [0, 0], [255, 255]]), Err(Refusal::Unreached));
+    // R 0 and G 0, B 16.
+    assert_eq!(inverse(&[1, 1], [[0, 0], [0, 0], [-16, -16]]), Err(Refusal::Unreached));
     assert_eq!(forward(Settings { width: 0, ..SETTINGS }, &[1, 1], PICTURE), Err(Refusal::Size));
-    assert_eq!(forward(Settings { depth: 1, ..SETTINGS }, &[1, 1], PICTURE), Err(Refusal::Depth));
+    assert_eq!(forward(Settings { depths: [5, 7, 1], ..SETTINGS }, &[1, 1], PICTURE), Err(Refusal::Depth));
+    assert_eq!(forward(Settings { depths: [4, 7, 4], ..SETTINGS }, &[1, 1], PICTURE), Err(Refusal::Sample));
     assert_eq!(forward(Settings { transform: 4, ..SETTINGS }, &[1, 1], PICTURE), Err(Refusal::Transform));
     assert_eq!(forward(SETTINGS, &[], PICTURE), Err(Refusal::Choices));
     assert_eq!(forward(Settings { width: 3, ..SETTINGS }, &[1, 1], PICTURE), Err(Refusal::Plane));
@@ -38,10 +40,10 @@ fn estimate_and_search() {
     let [c1, c2, c3] = [[10, 10], [10, 10], [60, 60]];
     let planes = [&c1[..], &c2[..], &c3[..]];
     for (transform, estimate) in [256, 384, 256, 256].into_iter().enumerate() {
-        let settings = Settings { transform: transform as u32, ..SETTINGS };
+        let settings = Settings { depths: [4, 5, 6], transform: transform as u32, ..SETTINGS };
         let mut choices = vec![9; library::places(settings.transform)];
         let mut trial = [[5; 2]; 3];
-        let mut counters = vec![3; library::counters(settings.depth)];
+        let mut counters = vec![3; library::counters(settings.depths, settings.transform).unwrap()];
         let right = Ok(Estimated { estimate, samples: 2 });
         let mut call = |rounds: u32, short: usize, counters: &mut [u32]| {
             let end = counters.len() - short;
@@ -53,12 +55,19 @@ fn estimate_and_search() {
             }
         };
         assert_eq!(call(5, 0, &mut counters), Err(Refusal::Rounds));
-        assert_eq!(call(2, 1700, &mut counters), Err(Refusal::Scratch));
+        assert_eq!(call(2, 1, &mut counters), Err(Refusal::Scratch));
         assert_eq!(call(2, 0, &mut counters), right);
         assert_eq!(call(9, 0, &mut counters), right);
         assert_eq!(choices, vec![0; choices.len()]);
         assert!(counters.iter().all(|&counter| counter == 0));
     }
+}
+
+#[test]
+fn counters() {
+    assert_eq!([0, 1, 2, 3].map(|transform| library::counters([5, 6, 5], transform).unwrap()), [221, 251, 253, 253]);
+    assert_eq!(library::counters([5, 6, 5], 4), None);
+    assert_eq!(library::counters([5, 17, 5], 0), None);
 }
 
 #[test]

@@ -57,5 +57,7 @@ pub fn print_settings(s: Settings) {
     print_field(b"transform", s.transform);
     print_field(b" width", s.width);
     print_field(b" height", s.height);
-    print_field(b" depth", s.depth);
+    print_field(b" depths", s.depths.c1);
+    print_field(b"", s.depths.c2);
+    print_field(b"", s.depths.c3);
 }

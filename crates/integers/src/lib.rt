@@ -1,7 +1,6 @@
 // Tests that numbers lie in a range, −below .. above or 0 .. 2^bits − 1.
 
 ghost use mathlib.Core.Path.{_≡_};
-ghost use mathlib.Core.Bool.{_&&_};
 ghost use Prim.Native.Nat.{_-_, _^_, _≤_};
 ghost use Rattle.integers.specs.Parts.{within};
 ghost use Rattle.integers.specs.Lists.{allWithin};
@@ -41,12 +40,4 @@ pub fn all_fit(plane: &[i32], bits: u32) -> bool
         i += 1;
     }
     (union >> bits) == 0
-}
-
-// The same of three planes.
-pub fn three_fit(c1: &[i32], c2: &[i32], c3: &[i32], bits: u32) -> bool
-    requires { ⌜ bits ≤ 31 ⌝ }
-    ensures { λ r. ⌜ r ≡ (allWithin 0 (2 ^ bits - 1) (now (c1 .entry)) && (allWithin 0 (2 ^ bits - 1) (now (c2 .entry)) && allWithin 0 (2 ^ bits - 1) (now (c3 .entry)))) ⌝ }
-{
-    all_fit(c1, bits) & (all_fit(c2, bits) & all_fit(c3, bits))
 }

@@ -9,6 +9,8 @@ use Rattle.integers.specs.Slices.{slice}
 use Rattle.integers.proofs.Slices.{slice-front, slice-back}
 use Rattle.stage.specs.declared.Range.{Range}
 use Rattle.stage.specs.declared.Settings.{Settings}
+use Rattle.stage.specs.declared.Plane.{Plane}
+use Rattle.stage.specs.Settings.{depthAt}
 use Rattle.stage.specs.Planes.{Triple, Planes}
 use Rattle.stage.specs.Steps.{Step, steps, run, undo}
 use Rattle.stage.specs.Ranges.{ranges, sampleRanges, finishedRanges, bounded, InRanges}
@@ -35,7 +37,7 @@ at-next {s} {i} {q} z j φ p h e =
       inside = subst (λ (x : Triple Range). InRanges x (run (setup s φ) m q)) r (run-in (setup s φ) m _ q (setup-keeps s φ _) (z .inside));
     })
 
-module _ {s : Settings} (deep : s .depth ≤ 16) where
+module _ {s : Settings} (deep : (c : Plane) → depthAt s c ≤ 16) where
   -- within the ranges of finished planes, which hold those on the way
   pub at-finished : {k : ℕ} {q : Planes} → AtStep s k q → InRanges (finishedRanges s) q
   at-finished {k} {q} z = in-inside _ (finishedRanges s) (take-inside (steps (s .transform)) k (sampleRanges s)) q (z .inside)

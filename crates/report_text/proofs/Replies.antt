@@ -9,7 +9,7 @@ use lib.ListN.{replicate}
 use borrow.Author.Tests.{eq-eqb, ne-eqb}
 use Rattle.stage.specs.declared.Settings.{Settings}
 use Rattle.stage.specs.Answers.{Reply, done, refused, _else_, refusal, replyBy, Outcome}
-use Rattle.stage.specs.Settings.{settingsOf}
+use Rattle.stage.specs.Settings.{each, settingsOf}
 use Rattle.stage.specs.Planes.{Planes}
 use Rattle.stage.specs.Steps.{steps, places}
 use Rattle.stage.specs.Transform.{isPicture}
@@ -36,11 +36,11 @@ search-refused s p k m n e =
 
 module _ (h : Header) (p : Planes) (t : ℕ) where
   abbrev call : List ℕ → Outcome Estimated Lent
-  call φ = searchCall (settingsOf (h .width) (h .height) (h .depth) t) p 2 (lent φ)
+  call φ = searchCall (settingsOf (h .width) (h .height) (each (h .depth)) t) p 2 (lent φ)
 
   reply-by : (φ : List ℕ) (a : code.Estimated) → replyOf a ≡ call φ .reply → call φ .reply ≡ replyBy (found a .refusal) (foundEstimate (found a))
   reply-by φ (Done e n) q = sym q
-  reply-by φ (Refused n) q = sym q ∙ sym (ap (λ b. cond b (done (record { estimate = 0; samples = 0 })) (refused n)) (search-refused (settingsOf (h .width) (h .height) (h .depth) t) p 2 (lent φ) n q))
+  reply-by φ (Refused n) q = sym q ∙ sym (ap (λ b. cond b (done (record { estimate = 0; samples = 0 })) (refused n)) (search-refused (settingsOf (h .width) (h .height) (each (h .depth)) t) p 2 (lent φ) n q))
 
   pub found-by : (a : code.Estimated) (φ : List ℕ) (m : Lent) {r : Found} → φ ≡ replicate (places (steps t)) 0 → outcomeOf a m ≡ call φ → r ≡ found a → FoundBy (searchOf h p t) (m .choices) r
   unfolding searchOf

@@ -6,7 +6,7 @@ use lib.Dec.{ltb}
 use lib.IntN.{pos}
 use lib.ListN.{length, replicate}
 use Rattle.stage.specs.Answers.{Reply, done, refused, Outcome}
-use Rattle.stage.specs.Settings.{settingsOf}
+use Rattle.stage.specs.Settings.{each, settingsOf}
 use Rattle.stage.specs.Planes.{Planes, triple}
 use Rattle.stage.specs.Steps.{steps, places}
 use Rattle.stage.specs.Pixmap.{Header, headerOf, rasterOf, rasterPlanes}
@@ -19,9 +19,9 @@ lent choices =
     let trial = replicate 2048 (pos 0) in
     record { choices = choices; scratch = record { trials = triple trial trial trial; counters = replicate 1785 0 } }
 
--- "searches with two rounds", for transform t
+-- "searches with two rounds", for transform t; a file has one depth for all planes
 unfoldable pub searchOf : Header → Planes → ℕ → Outcome Estimated Lent
-searchOf h p t = searchCall (settingsOf (h .width) (h .height) (h .depth) t) p 2 (lent (replicate (places (steps t)) 0))
+searchOf h p t = searchCall (settingsOf (h .width) (h .height) (each (h .depth)) t) p 2 (lent (replicate (places (steps t)) 0))
 
 abbrev pub lineBy : List ℕ → List ℕ → Reply Estimated → Reply (List ℕ)
 lineBy name φ (done e) = done (line name φ e)

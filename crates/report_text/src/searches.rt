@@ -7,6 +7,7 @@ ghost use Rattle.report_text.specs.Report.{searchOf};
 ghost use Rattle.report_text.specs.Found.{found, FoundBy, firstOf};
 use search::Estimated;
 use stage::Settings;
+use stage::each;
 
 // A refusal's number, or 0 and what the search found.
 pub struct Found {
@@ -32,7 +33,7 @@ fn outcome(answer: Estimated) -> Found
     }
 }
 
-// Two rounds with one transform, over scratch of its own.
+// Two rounds with one transform, over scratch of its own. A file has one depth for all planes.
 pub fn search_with(
     width: u32,
     height: u32,
@@ -53,7 +54,7 @@ pub fn search_with(
     let settings = Settings {
         width,
         height,
-        depth,
+        depths: each(depth),
         transform,
     };
     outcome(search::search(

@@ -1,24 +1,20 @@
 // What the calling program can get wrong beyond a transform's settings, in 01's order, from numbers and lengths alone.
 ghost use mathlib.Core.Path.{_≡_};
 ghost use mathlib.Core.Bool.{cond};
-ghost use Prim.Native.Nat.{_+_, _*_};
 ghost use lib.Dec.{leb};
 ghost use Rattle.stage.specs.Answers.{refusal};
 ghost use Rattle.stage.specs.Planes.{triple};
-ghost use Rattle.stage.specs.Ranges.{widest};
 ghost use Rattle.stage.specs.Settings.{Allowed};
-ghost use Rattle.stage.specs.Search.{allAtLeast, scratchTests};
+ghost use Rattle.stage.specs.Search.{countersNeeded, allAtLeast, scratchTests};
+use ranges::counters_needed;
 use stage::Settings;
-use transform::ranges::widest;
 use transform::settings::refusal;
 
-// Whether there are 2 × D + 1 counters.
 fn counters_fit(settings: Settings, counters: usize) -> bool
     requires { ⌜ Allowed settings ⌝ }
-    ensures { λ r. ⌜ r ≡ leb (2 * widest settings + 1) counters ⌝ }
+    ensures { λ r. ⌜ r ≡ leb (countersNeeded settings) counters ⌝ }
 {
-    let d = widest(settings) as usize;
-    2 * d + 1 <= counters
+    counters_needed(settings) as usize <= counters
 }
 
 // Whether trial planes of m1, m2 and m3 numbers have room for n each.

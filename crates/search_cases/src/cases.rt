@@ -12,7 +12,9 @@ use case_text::print;
 use case_text::print_field;
 use case_text::print_settings;
 use search::Estimated;
+use stage::Depths;
 use stage::Settings;
+use stage::each;
 
 // Scratch for 5,000 samples and depth 8. What it holds does not matter.
 fn searched(
@@ -90,9 +92,9 @@ fn fill_and_show(
 )
     requires { ⌜ Fillable slope ⌝ }
 {
-    let x2 = fill(c1, slope, seed);
-    let x3 = fill(c2, slope, x2);
-    fill(c3, slope, x3);
+    let x2 = fill(c1, slope, levels(slope.depths.c1), seed);
+    let x3 = fill(c2, slope, levels(slope.depths.c2), x2);
+    fill(c3, slope, levels(slope.depths.c3), x3);
     print_case(s, rounds, slope, seed);
     show(s, rounds, choices, c1, c2, c3);
 }
@@ -122,12 +124,12 @@ fn lend(s: Settings, rounds: u32, slope: Slope, seed: u32, choices: &mut [u8], n
     );
 }
 
-// A picture of n samples and of a depth, with as many choices as the transform has places.
-fn choose(s: Settings, rounds: u32, depth: u32, noise: u32, step: u32, seed: u32, n: usize)
-    requires { ⌜ CaseNumbers depth noise step seed n ⌝ }
+// A picture of n samples and of three depths, with as many choices as the transform has places.
+fn choose(s: Settings, rounds: u32, depths: Depths, noise: u32, step: u32, seed: u32, n: usize)
+    requires { ⌜ CaseNumbers depths noise step seed n ⌝ }
 {
     let slope = Slope {
-        levels: levels(depth),
+        depths: depths,
         noise: noise,
         step: step,
         start: seed,
@@ -148,20 +150,24 @@ fn choose(s: Settings, rounds: u32, depth: u32, noise: u32, step: u32, seed: u32
 fn case(k: u32, width: u32, height: u32, n: usize)
     requires { ⌜ (k ≤ 65536) × (n ≤ 5000) ⌝ }
 {
-    let depth = 2 + k % 7;
+    let depths = Depths {
+        c1: 2 + k % 7,
+        c2: 8 - k % 7,
+        c3: 2 + k / 4 % 7,
+    };
     let s = Settings {
         width: width,
         height: height,
-        depth: depth,
+        depths: depths,
         transform: k % 4,
     };
     let rounds = 1 + k / 4 % 4;
     match k % 5 {
-        0 => choose(s, rounds, depth, 65536, 0, k, n),
-        1 => choose(s, rounds, depth, 1, 0, k, n),
-        2 => choose(s, rounds, depth, 2, 1, k, n),
-        3 => choose(s, rounds, depth, 1, 3, k, n),
-        _ => choose(s, rounds, depth, 9, 5, k, n),
+        0 => choose(s, rounds, depths, 65536, 0, k, n),
+        1 => choose(s, rounds, depths, 1, 0, k, n),
+        2 => choose(s, rounds, depths, 2, 1, k, n),
+        3 => choose(s, rounds, depths, 1, 3, k, n),
+        _ => choose(s, rounds, depths, 9, 5, k, n),
     }
 }
 
@@ -182,27 +188,52 @@ fn sized(k: u32)
 }
 
 // A picture of nine samples and depth 8 with other settings.
-fn refusal(width: u32, height: u32, depth: u32, transform: u32, rounds: u32) {
+fn refusal(width: u32, height: u32, depths: Depths, transform: u32, rounds: u32) {
     let s = Settings {
         width: width,
         height: height,
-        depth: depth,
+        depths: depths,
         transform: transform,
     };
-    choose(s, rounds, 8, 65536, 0, 1, 9);
+    let pictured = Depths {
+        c1: 8,
+        c2: 8,
+        c3: 8,
+    };
+    choose(s, rounds, pictured, 65536, 0, 1, 9);
 }
 
-// A size, depth and transform past the limits, planes of another length, too few counters, rounds past the limits, and samples past
-// the depth's highest.
+// A size, a depth and a transform past the limits, planes of another length, too few counters, rounds past the limits, and samples
+// past a plane's highest.
 pub(crate) fn refusals() {
-    refusal(0, 3, 8, 0, 1);
-    refusal(3, 3, 17, 0, 1);
-    refusal(3, 3, 8, 4, 1);
-    refusal(3, 4, 8, 0, 1);
-    refusal(3, 3, 9, 1, 1);
-    refusal(3, 3, 8, 0, 0);
-    refusal(3, 3, 8, 0, 5);
-    refusal(3, 3, 7, 0, 1);
+    refusal(0, 3, each(8), 0, 1);
+    refusal(
+        3,
+        3,
+        Depths {
+            c1: 8,
+            c2: 8,
+            c3: 17,
+        },
+        0,
+        1,
+    );
+    refusal(3, 3, each(8), 4, 1);
+    refusal(3, 4, each(8), 0, 1);
+    refusal(3, 3, each(9), 1, 1);
+    refusal(3, 3, each(8), 0, 0);
+    refusal(3, 3, each(8), 0, 5);
+    refusal(
+        3,
+        3,
+        Depths {
+            c1: 8,
+            c2: 7,
+            c3: 8,
+        },
+        0,
+        1,
+    );
 }
 
 // Every kind of picture with every size.

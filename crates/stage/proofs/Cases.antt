@@ -17,6 +17,7 @@ use Rattle.stage.specs.Case.{count}
 use Rattle.stage.specs.Cases.{marked, CasesHold}
 use Rattle.stage.specs.FilterCases.{oneColour, filterCases, countedCases, FilterCasesHold}
 use Rattle.stage.specs.TransformCases.{planeCases, nullCases, limitCases, orderCases, TransformCasesHold}
+use Rattle.stage.specs.DepthCases.{depthRangeCases, depthCases, DepthCasesHold}
 use Rattle.stage.specs.SearchCases.{estimateCases, tieCases, scratchCases, EstimateCasesHold, TieCasesHold}
 use Rattle.stage.specs.PixmapCases.{textCases, fileCases, planesCases, PixmapCasesHold}
 use Rattle.stage.proofs.OneColour.{one-colour}
@@ -37,6 +38,10 @@ filter-cases-hold = (refl, ap₂ _∷_ (one-colour-case 64 4096 _ (lit≤ tt) (l
 pub transform-cases-hold : TransformCasesHold
 unfolding planeCases nullCases limitCases orderCases forward inverse transformed untransformed filtered mean allWithin
 transform-cases-hold = (refl, refl, refl, refl)
+
+pub depth-cases-hold : DepthCasesHold
+unfolding depthRangeCases depthCases forward inverse transformed untransformed filtered mean allWithin
+depth-cases-hold = (refl, refl)
 
 pub tie-cases-hold : TieCasesHold
 unfolding tieCases winner round rounds searched

@@ -1,4 +1,4 @@
--- At every depth the ranges computed from the steps are those of 01's table, and a picture's samples lie within them.
+-- The ranges computed from the steps are rows of a table: 01's where all depths are equal. A picture's samples lie within them.
 use mathlib.Core.Path.{_≡_, refl, ap, ap₂, sym, _∙_, subst}
 use mathlib.Core.List.{List, [], _∷_, map}
 use Prim.Native.Nat.{ℕ, zero, suc, _+_, _*_, _-_, _≤_, _^_}
@@ -6,13 +6,13 @@ use native.Mathlib.Omega.{arith}
 use lib.Pow.{pow-pos, pow-add}
 use lib.ListN.{getD, take}
 use Rattle.integers.specs.Lists.{AllIn}
-use Rattle.stage.specs.Settings.{Settings}
-use Rattle.stage.specs.Planes.{C3, Triple, Planes}
+use Rattle.stage.specs.Settings.{Settings, Depths, each}
+use Rattle.stage.specs.Planes.{C3, Triple, Planes, triple}
 use Rattle.stage.specs.Steps.{Step, transforms, YCoCg-R, steps, run}
-use Rattle.stage.specs.Ranges.{Range, ranges, sampleRanges, finishedRanges, rangeRow, rangeTable, depthTable, InRanges}
+use Rattle.stage.specs.Ranges.{Range, ranges, sampleRange, sampleRanges, finishedRanges, rangeRow, rangeTable, depthTable, threeRows, InRanges}
 use Rattle.stage.specs.Transform.{setup, transformed}
 use Rattle.stage.specs.Demand3.{GoesTo}
-use Rattle.stage.specs.Theorems.{RangesAreTable, SecondStepRange, StepsKeepRanges, SecondStepSamples, WithinTable}
+use Rattle.stage.specs.Theorems.{RangesAreTable, RangesAreRows, SecondStepRange, StepsKeepRanges, SecondStepSamples, WithinTable}
 use Rattle.stage.proofs.StepRanges.{setup-keeps, run-in}
 
 range-is : (a b : ℕ) (r : Range) → (a ≡ r .below) × (b ≡ r .above) → r ≡ record { below = a; above = b }
@@ -33,10 +33,25 @@ getD-map f d [] i = refl
 getD-map f d (x ∷ l) zero = refl
 getD-map f d (x ∷ l) (suc i) = getD-map f d l i
 
-table : (s : Settings) → 2 ≤ s .depth → map (λ (l : List Step). ranges l (sampleRanges s)) transforms ≡ depthTable (s .depth)
+-- the rows of all transforms from the ranges r of samples; one of them is a transform's
+abbrev rows : Triple Range → List (Triple Range)
+rows r = map (λ (l : List Step). ranges l r) transforms
+
+row-of : (s : Settings) {table : List (Triple Range)} → rows (sampleRanges s) ≡ table → finishedRanges s ≡ getD table (s .transform) (sampleRanges s)
+row-of s e =
+    getD-map (λ (l : List Step). ranges l (sampleRanges s)) [] transforms (s .transform)
+    ∙ ap (λ (l : List (Triple Range)). getD l (s .transform) (sampleRanges s)) e
+
+-- the ranges of samples where each plane has depth b
+abbrev alike : ℕ → Triple Range
+alike b = triple (sampleRange b) (sampleRange b) (sampleRange b)
+
+all-alike : (s : Settings) (b : ℕ) → s .depths ≡ each b → sampleRanges s ≡ alike b
+all-alike s b e = ap (λ (d : Depths). triple (sampleRange (d .c1)) (sampleRange (d .c2)) (sampleRange (d .c3))) e
+
+table : (b : ℕ) → 2 ≤ b → rows (alike b) ≡ depthTable b
 unfolding rangeTable
-table s h =
-    let b = s .depth in
+table b h =
     let q : 1 ≤ 2 ^ (b - 2) = pow-pos (b - 2) in
     let m : 2 ^ b ≡ 2 ^ (b - 2) * 4 = pow-split b 2 h in
     let n : 2 ^ b ≡ 2 ^ (b - 1) * 2 = pow-split b 1 (omega arith) in
@@ -45,24 +60,29 @@ table s h =
     (ap₂ _∷_ (row-is _ _ _ _ _ _ _ (omega arith)) (ap₂ _∷_ (row-is _ _ _ _ _ _ _ (omega arith)) refl)))
 
 pub ranges-are-table : RangesAreTable
-ranges-are-table s h =
-    getD-map (λ (l : List Step). ranges l (sampleRanges s)) [] transforms (s .transform)
-    ∙ ap (λ (l : List (Triple Range)). getD l (s .transform) (sampleRanges s)) (table s h)
+ranges-are-table s b h e = row-of s (ap rows (all-alike s b e) ∙ table b h)
+
+pub ranges-are-rows : RangesAreRows
+unfolding threeRows
+ranges-are-rows s =
+    row-of s
+    (ap₂ _∷_ (row-is _ _ _ _ _ _ _ (omega arith))
+    (ap₂ _∷_ (row-is _ _ _ _ _ _ _ (omega arith))
+    (ap₂ _∷_ (row-is _ _ _ _ _ _ _ (omega arith)) (ap₂ _∷_ (row-is _ _ _ _ _ _ _ (omega arith)) refl))))
 
 pub second-step-range : SecondStepRange
-second-step-range s h =
-    let b = s .depth in
+second-step-range s b h e =
     let q : 1 ≤ 2 ^ (b - 1) = pow-pos (b - 1) in
     let n : 2 ^ b ≡ 2 ^ (b - 1) * 2 = pow-split b 1 (omega arith) in
-    range-is _ _ _ (omega arith)
+    ap (λ (r : Triple Range). ranges (take 2 YCoCg-R) r .c3) (all-alike s b e) ∙ range-is _ _ _ (omega arith)
 
 -- ---- of samples
 pub steps-keep-ranges : StepsKeepRanges
 steps-keep-ranges s σ n p k h = run-in σ (take n (steps (s .transform))) (sampleRanges s) p k h
 
 pub second-step-samples : SecondStepSamples
-second-step-samples s φ p b h =
-    subst (λ (r : Range). AllIn (r .below) (r .above) (run (setup s φ) (take 2 YCoCg-R) p .c3)) (second-step-range s b)
+second-step-samples s b φ p d e h =
+    subst (λ (r : Range). AllIn (r .below) (r .above) (run (setup s φ) (take 2 YCoCg-R) p .c3)) (second-step-range s b d e)
     (run-in (setup s φ) (take 2 YCoCg-R) (sampleRanges s) p (setup-keeps s φ _) (h .samples) C3)
 
 -- what a picture goes to lies within the ranges of finished planes
@@ -73,4 +93,4 @@ goes-within s φ p q g =
     (run-in (setup s φ) (steps (s .transform)) (sampleRanges s) p (setup-keeps s φ _) (g .picture .samples))
 
 pub within-table : WithinTable
-within-table s φ p q b g = subst (λ (r : Triple Range). InRanges r q) (ranges-are-table s b) (goes-within s φ p q g)
+within-table s b φ p q d e g = subst (λ (r : Triple Range). InRanges r q) (ranges-are-table s b d e) (goes-within s φ p q g)

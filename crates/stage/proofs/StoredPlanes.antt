@@ -3,7 +3,7 @@
 use mathlib.Core.Path.{_≡_, refl, sym, ap, _∙_, subst}
 use mathlib.Core.Bool.{Bool, true, false, cond, not, _&&_}
 use mathlib.Core.List.{List, [], _∷_}
-use Prim.Native.Nat.{ℕ, zero, suc, _<_}
+use Prim.Native.Nat.{ℕ, zero, suc, _<_, max}
 use native.Mathlib.Omega.{arith}
 use lib.Dec.{T}
 use lib.IntN.{ℤ, pos, negℤ}
@@ -11,7 +11,7 @@ use lib.ListN.{length}
 use Rattle.integers.specs.Parts.{posPart, negPart, In}
 use Rattle.integers.specs.Lists.{at, AllIn, mapIndexed}
 use Rattle.integers.proofs.Booleans.{and-iff, not-both}
-use Rattle.integers.proofs.Lists.{length-mapIndexed, at-mapped, ext-at}
+use Rattle.integers.proofs.Lists.{length-mapIndexed, at-mapped, ext-at, all-wider}
 use Rattle.integers.proofs.Parts.{add-difference, neg-parts, eq-parts}
 use Rattle.stage.specs.Planes.{Plane, C1, C2, C3, Planes, get, put, samePlane}
 use Rattle.stage.specs.Steps.{Setup, Step, Lifting, add, subtract, negate, value, allNull, skipped, lift, lifted, opposite, step, run, steps}
@@ -114,9 +114,16 @@ pub no-other-picture : NoOtherPicture
 unfolding transformed
 no-other-picture s φ p r h e =
     let l = steps (s .transform) in
-    let m = maxSample (s .depth) in
     let g = inverse-iff s φ r (run (unskipped (setup s φ)) l p) .0 e .1 in
     run-same (setup s φ) (λ z. refl) m l (separate (s .transform)) p r (positive m l p (samples h)) (positive m l r (samples (g .picture))) (sym (g .goes))
   where
-    samples : {u : Planes} → Picture s u → (c : Plane) → AllIn 0 (maxSample (s .depth)) (get u c)
-    samples {u} i = each-plane (λ (c : Plane). AllIn 0 (maxSample (s .depth)) (get u c)) (i .samples C1) (i .samples C2) (i .samples C3)
+    -- the highest of all samples
+    m : ℕ
+    m = max (maxSample (s .depths .c1)) (max (maxSample (s .depths .c2)) (maxSample (s .depths .c3)))
+
+    samples : {u : Planes} → Picture s u → (c : Plane) → AllIn 0 m (get u c)
+    samples {u} i =
+        each-plane (λ (c : Plane). AllIn 0 m (get u c))
+        (all-wider (i .samples C1) (omega arith) (omega arith))
+        (all-wider (i .samples C2) (omega arith) (omega arith))
+        (all-wider (i .samples C3) (omega arith) (omega arith))

@@ -8,11 +8,12 @@ use native.Mathlib.Omega.{arith}
 use lib.Dec.{T, leb, eqb, leb→le, le→leb, eqb→eq, eqb-refl}
 use lib.ListN.{length}
 use Rattle.integers.proofs.Booleans.{and-iff}
-use Rattle.stage.specs.Settings.{Settings, pixels, Allowed}
+use Rattle.stage.specs.Settings.{Settings, depthAt, depthsAllowed, pixels, Allowed}
 use Rattle.stage.specs.Planes.{Plane, C1, C2, C3, Triple, Planes, get}
 use Rattle.stage.specs.Ranges.{widest}
 use Rattle.stage.specs.Transform.{lengths, allEqual, settingsTests, HasSize}
-use Rattle.stage.specs.Search.{allAtLeast, scratchFits}
+use Rattle.stage.specs.Search.{countersNeeded, allAtLeast, scratchFits}
+use Rattle.stage.specs.Answers.{between}
 use Rattle.stage.proofs.Answers.{Holds, between-iff, sized-iff}
 use Rattle.stage.proofs.Triples.{each-test}
 
@@ -24,6 +25,11 @@ allEqual-iff n l =
     let e = each-test (λ c. eqb (get l c) n) in
     (λ t c. eqb→eq (get l c) n (e .0 t c), λ w. e .1 (λ c. eq-test (w c)))
 
+pub depths-iff : (s : Settings) → T (depthsAllowed (s .depths)) ↔ ((c : Plane) → (2 ≤ depthAt s c) × (depthAt s c ≤ 16))
+depths-iff s =
+    let e = each-test (λ (c : Plane). between 2 16 (depthAt s c)) in
+    (λ t c. between-iff 2 16 (depthAt s c) .0 (e .0 t c), λ h. e .1 (λ c. between-iff 2 16 (depthAt s c) .1 (h c)))
+
 -- The settings are allowed, the call's own test of the choices holds, and the planes, of lengths l, have the picture's size.
 pub record ValidSettings (s : Settings) (choices : Bool) (l : Triple ℕ) : Type 0 where
   pub allowed : Allowed s
@@ -33,16 +39,16 @@ pub record ValidSettings (s : Settings) (choices : Bool) (l : Triple ℕ) : Type
 pub settings-iff : (s : Settings) (choices : Bool) (l : Triple ℕ) → Holds (settingsTests s choices l) ↔ ValidSettings s choices l
 settings-iff s choices l =
     let size = sized-iff (s .width) (s .height) in
-    let depth = between-iff 2 16 (s .depth) in
+    let depths = depths-iff s in
     let all = allEqual-iff (pixels s) l in (
-      λ k. let d = size .0 (k .0) in let b = depth .0 (k .1 .0) in record {
+      λ k. let d = size .0 (k .0) in record {
         allowed = record {
           width-least = d .0 .0;
           width-most = d .0 .1;
           height-least = d .1 .0;
           height-most = d .1 .1;
-          depth-least = b .0;
-          depth-most = b .1;
+          depth-least = λ c. depths .0 (k .1 .0) c .0;
+          depth-most = λ c. depths .0 (k .1 .0) c .1;
           transform-most = leb→le (s .transform) 3 (k .1 .1 .0);
         };
         choices-fit = k .1 .1 .1 .0;
@@ -51,7 +57,7 @@ settings-iff s choices l =
       λ v. let a = v .allowed in (
         size .1 ((a .width-least, a .width-most), (a .height-least, a .height-most)),
         (
-          depth .1 (a .depth-least, a .depth-most),
+          depths .1 (λ c. (a .depth-least c, a .depth-most c)),
           (le→leb (s .transform) 3 (a .transform-most), (v .choices-fit, (all .1 (v .size), tt))),
         ),
       ),
@@ -89,8 +95,8 @@ pub record ValidScratch (s : Settings) (l : Triple ℕ) (counters : ℕ) : Type 
 
 pub scratch-valid : (s : Settings) (l : Triple ℕ) (counters : ℕ) → T (scratchFits s l counters) → ValidScratch s l counters
 scratch-valid s l counters t =
-    let a = and-iff (allAtLeast (pixels s) l) (leb (2 * widest s + 1) counters) .0 t in
+    let a = and-iff (allAtLeast (pixels s) l) (leb (countersNeeded s) counters) .0 t in
     record {
       room = λ c. leb→le (pixels s) (get l c) (each-test (λ (c : Plane). leb (pixels s) (get l c)) .0 (a .0) c);
-      enough = omega (arith, leb→le (2 * widest s + 1) counters (a .1));
+      enough = omega (arith, leb→le (countersNeeded s) counters (a .1));
     }

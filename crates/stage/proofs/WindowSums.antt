@@ -12,8 +12,8 @@ use mir.Val.{SFits}
 use Rattle.integers.specs.Lists.{AllIn, allWithin}
 use Rattle.integers.proofs.Parts.{add-difference, scale-parts}
 use Rattle.integers.proofs.Ranges.{in-fits}
-use Rattle.stage.specs.Settings.{Settings, settingsOf}
-use Rattle.stage.specs.Planes.{C3, Planes, triple}
+use Rattle.stage.specs.Settings.{Settings, each, settingsOf, depthAt}
+use Rattle.stage.specs.Planes.{Plane, C3, Planes, triple}
 use Rattle.stage.specs.Filter.{inside, weight, weightSum, weightedSum, windowIndex, windowSample, roundedSum, mean, filtered}
 use Rattle.stage.specs.Steps.{Setup}
 use Rattle.stage.specs.Ranges.{sampleRanges, finishedRanges, InRanges, KeepsRanges}
@@ -54,7 +54,7 @@ pub window-fits : WindowFits
 window-fits w h a k centre i c = sum-fits w h centre i 32 _ a k (omega arith)
 
 run-fits : (bits : ℕ) → ((centre : ℕ) → centre ≤ 1024 → (centre + 8) * (2 * 2 ^ 19 + 1) ≤ 2 ^ (bits - 1) - 1)
-    → (s : Settings) (σ : Setup) → s .depth ≤ 16 → KeepsRanges (sampleRanges s) σ → RunSumsFit bits s σ
+    → (s : Settings) (σ : Setup) → ((c : Plane) → depthAt s c ≤ 16) → KeepsRanges (sampleRanges s) σ → RunSumsFit bits s σ
 run-fits bits most s σ d k = record {
   forward = λ n c p h centre i m. sum-fits _ _ centre i bits _ _ (bounded-in _ (met-forward s σ n p d k h) c) (most centre m);
   back = λ n c q h centre i m. sum-fits _ _ centre i bits _ _ (bounded-in _ (met-back s σ n q d k h) c) (most centre m);
@@ -80,7 +80,7 @@ lent = triple (replicate 9 (minus 65535)) (replicate 9 (minus 98302)) (replicate
 pub bits-too-few : BitsTooFew
 unfolding lent filtered mean allWithin
 bits-too-few fit =
-    let s = settingsOf 3 3 16 1 in
+    let s = settingsOf 3 3 (each 16) 1 in
     let h : InRanges (finishedRanges s) lent = withinRanges-iff (finishedRanges s) lent .0 tt in
     let z = fit .back 1 C3 lent h 1024 4 (leb→le _ _ tt) in
     le→leb 473424840 268435455 (z .high)

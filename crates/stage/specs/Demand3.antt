@@ -21,7 +21,7 @@ abbrev pub accepted : Planes → Outcome (Unit {0}) Planes
 accepted p = record { reply = done tt; memory = p }
 
 -- For planes q of the picture's size: whole numbers without limit, so signed 32-bit numbers too. "Two pictures of one size and
--- depth are the same if all samples are": that is ≡.
+-- depth are the same if all samples are": that is ≡. A picture is one within its own three depths (02, request 7).
 pub record Demand3 (s : Settings) (φ : List ℕ) (q : Planes) : Type 0 where
   -- the inverse accepts q exactly when some picture goes to q
   pub accepts : (inverse s φ q .reply ≡ done tt) ↔ ((p : Planes) × GoesTo s φ p q)
@@ -38,7 +38,7 @@ pub record Demand3 (s : Settings) (φ : List ℕ) (q : Planes) : Type 0 where
   -- planes outside their ranges may be answered 12 without undoing a step
   pub outside : (InRanges (finishedRanges s) q → ⊥) → inverse s φ q ≡ record { reply = refused 12; memory = q }
 
--- for every allowed size and depth, each of the four transforms, and whichever filter stands at each place
+-- for every allowed size, all allowed depths, each of the four transforms, and whichever filter stands at each place
 abbrev pub Demand3Holds : Type 0
 Demand3Holds = (s : Settings) (φ : List ℕ) → Allowed s → T (choicesFit s φ) → (q : Planes) → HasSize s q → Demand3 s φ q
 

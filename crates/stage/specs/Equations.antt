@@ -9,7 +9,7 @@ use lib.IntN.{ℤ, negℤ, _+ℤ_, _-ℤ_}
 use lib.ListN.{getD}
 use Rattle.integers.specs.Parts.{floorDiv}
 use Rattle.integers.specs.Lists.{mapIndexed}
-use Rattle.stage.specs.Settings.{settingsOf}
+use Rattle.stage.specs.Settings.{Depths, settingsOf}
 use Rattle.stage.specs.Planes.{Planes, triple}
 use Rattle.stage.specs.Filter.{filtered}
 use Rattle.stage.specs.Transform.{transformed, untransformed}
@@ -70,10 +70,10 @@ module _ (w h : ℕ) (φ : List ℕ) where
       let r = lifted (null 1) (q .c1) (λ i x. x +ℤ floorDiv (d 1 (q .c2) i) 2) in
       triple r (lifted (null 0) (q .c2) (λ i x. negℤ x +ℤ d 0 r i)) (lifted (null 2) (q .c3) (λ i x. x +ℤ d 2 (q .c1) i))
 
--- transform t, at any size w by h and depth b, is the equations f, and back it is g
+-- transform t, at any size w by h and any depths, is the equations f, and back it is g
 pub record Equations (t : ℕ) (f g : ℕ → ℕ → List ℕ → Planes → Planes) : Type 0 where
-  pub there : (w h b : ℕ) (φ : List ℕ) (p : Planes) → transformed (settingsOf w h b t) φ p ≡ f w h φ p
-  pub back : (w h b : ℕ) (φ : List ℕ) (q : Planes) → untransformed (settingsOf w h b t) φ q ≡ g w h φ q
+  pub there : (w h : ℕ) (depths : Depths) (φ : List ℕ) (p : Planes) → transformed (settingsOf w h depths t) φ p ≡ f w h φ p
+  pub back : (w h : ℕ) (depths : Depths) (φ : List ℕ) (q : Planes) → untransformed (settingsOf w h depths t) φ q ≡ g w h φ q
 
 abbrev pub EquationsHold : Type 0
 EquationsHold = Equations 0 rct rctBack × Equations 1 ycocg ycocgBack × Equations 2 rdgdb rdgdbBack × Equations 3 ldgeb ldgebBack

@@ -15,6 +15,7 @@ pub mod Case
 pub mod Cases
 pub mod FilterCases
 pub mod TransformCases
+pub mod DepthCases
 pub mod SearchCases
 pub mod PixmapCases
 pub mod Equations

@@ -1,6 +1,6 @@
--- Ranges of planes, computed from the steps (01, "Ranges of finished planes"). Every range holds 0, so two natural numbers say it:
--- −below to above. r is a range or one for each plane, v the range of what a step adds, x that of the plane which it changes, b a
--- depth; M, H and q are 01's numbers.
+-- Ranges of planes, computed from the steps (01, "Ranges of finished planes"; 02, request 7: "every range follows from the steps"). Every
+-- range holds 0, so two natural numbers say it: −below to above. r is a range or one for each plane, v the range of what a step adds, x
+-- that of the plane which it changes, b a depth; M, H and q are 01's numbers, M1, M2 and M3 the highest samples of the three planes.
 use mathlib.Core.Bool.{Bool, _&&_}
 use mathlib.Core.List.{List, [], _∷_}
 use Prim.Native.Nat.{ℕ, _+_, _*_, _-_, _/_, _^_, _≤_, max}
@@ -12,18 +12,31 @@ use Rattle.stage.specs.Settings.{Settings}
 use Rattle.stage.specs.Planes.{Plane, Triple, Planes, triple, get, put}
 use Rattle.stage.specs.Steps.{Setup, Step, reversed, Term, Lifting, add, subtract, negate, _ᵈ_, _⊕_, _/2, _/4, steps}
 
--- a filter keeps its plane's range; sums and floors act on the ends
+-- "filters keep a plane's range, sums and floors act on the ends": of a sum, of numbers negated, of numbers divided by n and rounded down;
+-- and the range that takes in two
+abbrev pub sum : (x v : Range) → Range
+sum x v = record { below = x .below + v .below; above = x .above + v .above }
+
+abbrev pub negated : Range → Range
+negated x = record { below = x .above; above = x .below }
+
+abbrev pub divided : ℕ → Range → Range
+divided n x = record { below = (x .below + (n - 1)) / n; above = x .above / n }
+
+abbrev pub hull : (x v : Range) → Range
+hull x v = record { below = max (x .below) (v .below); above = max (x .above) (v .above) }
+
 abbrev pub termRange : Triple Range → Term → Range
 termRange r (c ᵈ k) = get r c
-termRange r (t ⊕ u) = record { below = termRange r t .below + termRange r u .below; above = termRange r t .above + termRange r u .above }
-termRange r (t /2) = record { below = (termRange r t .below + 1) / 2; above = termRange r t .above / 2 }
-termRange r (t /4) = record { below = (termRange r t .below + 3) / 4; above = termRange r t .above / 4 }
+termRange r (t ⊕ u) = sum (termRange r t) (termRange r u)
+termRange r (t /2) = divided 2 (termRange r t)
+termRange r (t /4) = divided 4 (termRange r t)
 
--- a negating step's range takes in what its plane had before, so that it also holds where the step is skipped
+-- "A negating step's range also takes in what its plane had before, because it may be skipped."
 abbrev pub liftRange : Lifting → (v x : Range) → Range
-liftRange add v x = record { below = x .below + v .below; above = x .above + v .above }
-liftRange subtract v x = record { below = x .below + v .above; above = x .above + v .below }
-liftRange negate v x = record { below = max (x .below) (x .above + v .below); above = max (x .above) (x .below + v .above) }
+liftRange add v x = sum x v
+liftRange subtract v x = sum x (negated v)
+liftRange negate v x = hull x (sum (negated x) v)
 
 -- after a step; after all steps; after undoing all steps
 abbrev pub stepRanges : Step → Triple Range → Triple Range
@@ -45,13 +58,13 @@ abbrev pub sampleRange : ℕ → Range
 sampleRange b = record { below = 0; above = maxSample b }
 
 abbrev pub sampleRanges : Settings → Triple Range
-sampleRanges s = triple (sampleRange (s .depth)) (sampleRange (s .depth)) (sampleRange (s .depth))
+sampleRanges s = triple (sampleRange (s .depths .c1)) (sampleRange (s .depths .c2)) (sampleRange (s .depths .c3))
 
 -- the ranges of finished planes
 abbrev pub finishedRanges : Settings → Triple Range
 finishedRanges s = ranges (steps (s .transform)) (sampleRanges s)
 
--- 01's table of them, a row for each transform: M, H and q are 2^b − 1, 2^(b−1) and 2^(b−2) at depth b
+-- 01's table of them, a row for each transform: M, H and q are 2^b − 1, 2^(b−1) and 2^(b−2) where each plane has depth b
 abbrev pub rangeRow : (l1 h1 l2 h2 l3 h3 : ℕ) → Triple Range
 rangeRow l1 h1 l2 h2 l3 h3 =
     triple (record { below = l1; above = h1 }) (record { below = l2; above = h2 }) (record { below = l3; above = h3 })
@@ -66,6 +79,17 @@ rangeTable M H q =
 
 abbrev pub depthTable : ℕ → List (Triple Range)
 depthTable b = rangeTable (2 ^ b - 1) (2 ^ (b - 1)) (2 ^ (b - 2))
+
+-- the rows at any depths, spelled out
+unfoldable pub threeRows : (M1 M2 M3 : ℕ) → List (Triple Range)
+threeRows M1 M2 M3 =
+    let l = (M3 + 1) / 2 in
+    let u = M3 + M1 / 2 in
+    rangeRow M2 M1 ((2 * M2 + 3) / 4) (M2 + (M1 + M3) / 4) M2 M3
+    ∷ rangeRow M3 M1 u (M2 + l) (l + (u + 1) / 2) (u + (M2 + l) / 2)
+    ∷ rangeRow 0 M1 M2 (max M1 M2) M3 (max M2 M3)
+    ∷ rangeRow (max M1 M2 / 2) (M1 + (M2 + 1) / 2) M2 (max M1 M2) (M1 + (M2 + 1) / 2) (M3 + max M1 M2 / 2)
+    ∷ []
 
 -- ±2^19, which holds every number that a call meets
 abbrev pub bounded : Triple Range

@@ -7,7 +7,7 @@ use lib.Dec.{ltb, leb}
 use lib.IntN.{pos}
 use lib.ListN.{length, getD, set, replicate}
 use Rattle.stage.specs.Answers.{Test, _else_, Outcome, outcome, between}
-use Rattle.stage.specs.Settings.{Settings, pixels}
+use Rattle.stage.specs.Settings.{Settings, Depths, settingsOf, depthsAllowed, pixels}
 use Rattle.stage.specs.Planes.{Triple, Planes, mapTriple}
 use Rattle.stage.specs.Steps.{steps, places}
 use Rattle.stage.specs.Ranges.{widest}
@@ -44,7 +44,15 @@ pub record Estimated : Type 0 where
   pub estimate : ℕ
   pub samples : ℕ
 
--- Scratch: three trial planes and 2 × D + 1 counters.
+-- 2 × D + 1 counters
+abbrev pub countersNeeded : Settings → ℕ
+countersNeeded s = 2 * widest s + 1
+
+-- The call `counters` tells a caller this number, and 0 where a depth or the transform would be refused. A picture's size makes no difference.
+abbrev pub countersCall : Depths → ℕ → ℕ
+countersCall d t = cond (depthsAllowed d && leb t 3) (countersNeeded (settingsOf 1 1 d t)) 0
+
+-- Scratch: three trial planes, and the counters.
 pub record Scratch : Type 0 where
   pub trials : Planes
   pub counters : List ℕ
@@ -59,7 +67,7 @@ abbrev pub allAtLeast : ℕ → Triple ℕ → Bool
 allAtLeast n l = leb n (l .c1) && (leb n (l .c2) && leb n (l .c3))
 
 abbrev pub scratchFits : (s : Settings) (trials : Triple ℕ) (counters : ℕ) → Bool
-scratchFits s trials counters = allAtLeast (pixels s) trials && leb (2 * widest s + 1) counters
+scratchFits s trials counters = allAtLeast (pixels s) trials && leb (countersNeeded s) counters
 
 -- After success all lent scratch is zero, also what exceeds the need.
 abbrev pub cleared : {A : Type 0} → A → List A → List A

@@ -6,7 +6,7 @@ use lib.Dec.{eqb}
 use lib.IntN.{pos}
 use lib.ListN.{getD, replicate}
 use Rattle.stage.specs.Answers.{done, refused}
-use Rattle.stage.specs.Settings.{Settings, settingsOf}
+use Rattle.stage.specs.Settings.{Settings, each, settingsOf}
 use Rattle.stage.specs.Planes.{Planes, triple}
 use Rattle.stage.specs.Search.{Scratch, Lent, searched, estimateCall, searchCall}
 use Rattle.stage.specs.Case.{Value, Case, _gives_, Hold, counts, estimate, search, pixel}
@@ -33,7 +33,7 @@ refusesSearch n m = search (record { reply = refused n; memory = m })
 
 -- 01's report: "2 1 .. 255 .. 10 10 60 10 10 60", transform t
 abbrev reported : ℕ → Settings
-reported t = settingsOf 2 1 8 t
+reported t = settingsOf 2 1 (each 8) t
 
 abbrev picture : Planes
 picture = triple (pos 10 ∷ pos 10 ∷ []) (pos 10 ∷ pos 10 ∷ []) (pos 60 ∷ pos 60 ∷ [])
@@ -71,13 +71,13 @@ searchCases =
     (search (searchCall (reported 2) picture 2 (lent (99 ∷ 5 ∷ []) (scratch 2 3 4 1022 7 9)))
     gives finds (0 ∷ 0 ∷ []) 256 2 (scratch 2 3 4 1022 0 0))
     -- filter 12 has the lowest estimate
-    ∷ (search (searchCall (settingsOf 2 1 2 2) two 1 (lent (0 ∷ 0 ∷ []) (scratch 2 2 2 13 7 9)))
+    ∷ (search (searchCall (settingsOf 2 1 (each 2) 2) two 1 (lent (0 ∷ 0 ∷ []) (scratch 2 2 2 13 7 9)))
     gives finds (12 ∷ 0 ∷ []) 256 2 (scratch 2 2 2 13 0 0))
     -- filters 1, 2 and 12 tie at the second place: "else the lowest number wins"
-    ∷ (search (searchCall (settingsOf 3 1 2 3) three 1 (lent (0 ∷ 0 ∷ 0 ∷ []) (scratch 3 3 3 19 7 9)))
+    ∷ (search (searchCall (settingsOf 3 1 (each 2) 3) three 1 (lent (0 ∷ 0 ∷ 0 ∷ []) (scratch 3 3 3 19 7 9)))
     gives finds (0 ∷ 1 ∷ 0 ∷ []) 653 3 (scratch 3 3 3 19 0 0))
     -- the second round changes the first place; filter 0 would stay there if a null step negated its plane
-    ∷ (search (searchCall (settingsOf 3 1 2 3) three 2 (lent (0 ∷ 0 ∷ 0 ∷ []) (scratch 3 3 3 19 7 9)))
+    ∷ (search (searchCall (settingsOf 3 1 (each 2) 3) three 2 (lent (0 ∷ 0 ∷ 0 ∷ []) (scratch 3 3 3 19 7 9)))
     gives finds (12 ∷ 1 ∷ 0 ∷ []) 478 3 (scratch 3 3 3 19 0 0))
     ∷ []
 
@@ -91,7 +91,7 @@ tieCases =
 
 -- one pixel at depth 2, and one that is no picture: RDgDb has two places and needs 13 counters
 abbrev s : Settings
-s = settingsOf 1 1 2 2
+s = settingsOf 1 1 (each 2) 2
 
 abbrev black : Planes
 black = pixel (pos 0) (pos 0) (pos 0)

@@ -1,23 +1,44 @@
--- A run's settings: a picture's width, height and depth, and the number of its transform (01, "Planes and steps"). The calls are
--- lent them as numbers and test them. Letters, where a file's head says nothing else: s stands for the settings, and w, h, b, t for
--- width, height, depth and transform by themselves; φ for the choices, one filter for each place; p for planes that a step or a call
--- is given, q for planes that a transform has finished; c for one of the three planes, a for its samples, i for a sample's index, and
--- k for a place's number.
+-- A run's settings: a picture's width, height and depths, and the number of its transform (01, "Planes and steps"; 02, request 7: "The
+-- picture's description holds three depths"). The calls are lent them as numbers and test them. Letters, where a file's head says nothing
+-- else: s stands for the settings, d for the depths, and w, h, b, t for width, height, a depth and the transform by themselves; φ for the
+-- choices, one filter for each place; p for planes that a step or a call is given, q for planes that a transform has finished; c for one of
+-- the three planes, a for its samples, i for a sample's index, and k for a place's number.
+use mathlib.Core.Bool.{Bool, _&&_}
 use Prim.Native.Nat.{ℕ, _*_, _≤_}
 pub use Rattle.stage.specs.declared.Settings.{Settings}
+pub use Rattle.stage.specs.declared.Depths.{Depths}
+use Rattle.stage.specs.Answers.{between}
+use Rattle.stage.specs.Planes.{Plane, C1, C2, C3}
 
-abbrev pub settingsOf : ℕ → ℕ → ℕ → ℕ → Settings
-settingsOf width height depth transform = record { width = width; height = height; depth = depth; transform = transform }
+-- the depths of planes 1, 2 and 3, and 01's one depth b for all of them
+abbrev pub depthsOf : (b1 b2 b3 : ℕ) → Depths
+depthsOf b1 b2 b3 = record { c1 = b1; c2 = b2; c3 = b3 }
+
+abbrev pub each : ℕ → Depths
+each b = depthsOf b b b
+
+abbrev pub settingsOf : (width height : ℕ) (d : Depths) (transform : ℕ) → Settings
+settingsOf width height d transform = record { width = width; height = height; depths = d; transform = transform }
+
+-- the depth of plane c
+abbrev pub depthAt : Settings → Plane → ℕ
+depthAt s C1 = s .depths .c1
+depthAt s C2 = s .depths .c2
+depthAt s C3 = s .depths .c3
 
 abbrev pub pixels : Settings → ℕ
 pixels s = s .width * s .height
 
--- "A picture has width and height 1 to 8,192, depth b of 2 to 16 bits", and transforms are numbered 0 to 3.
+-- "three depths, each 2 to 16", as a test
+abbrev pub depthsAllowed : Depths → Bool
+depthsAllowed d = between 2 16 (d .c1) && (between 2 16 (d .c2) && between 2 16 (d .c3))
+
+-- "A picture has width and height 1 to 8,192", and transforms are numbered 0 to 3.
 pub record Allowed (s : Settings) : Type 0 where
   pub width-least : 1 ≤ s .width
   pub width-most : s .width ≤ 8192
   pub height-least : 1 ≤ s .height
   pub height-most : s .height ≤ 8192
-  pub depth-least : 2 ≤ s .depth
-  pub depth-most : s .depth ≤ 16
+  pub depth-least : (c : Plane) → 2 ≤ depthAt s c
+  pub depth-most : (c : Plane) → depthAt s c ≤ 16
   pub transform-most : s .transform ≤ 3

@@ -9,14 +9,14 @@ use lib.IntN.{ℤ}
 use lib.ListN.{take, drop, set, getD}
 use Rattle.integers.specs.Parts.{In}
 use Rattle.integers.specs.Lists.{AllIn}
-use Rattle.stage.specs.Settings.{Settings}
-use Rattle.stage.specs.Planes.{Planes}
+use Rattle.stage.specs.Settings.{Settings, each, depthAt}
+use Rattle.stage.specs.Planes.{Plane, Planes}
 use Rattle.stage.specs.Filter.{mean, filtered}
 use Rattle.stage.specs.Steps.{Setup, steps, places, run, undo, YCoCg-R}
-use Rattle.stage.specs.Ranges.{ranges, sampleRanges, finishedRanges, depthTable, bounded, InRanges, KeepsRanges}
+use Rattle.stage.specs.Ranges.{AllInside, maxSample, ranges, sampleRanges, finishedRanges, depthTable, threeRows, bounded, widest, InRanges, KeepsRanges}
 use Rattle.stage.specs.Transform.{choicesFit, setup, transformed, untransformed, Picture}
 use Rattle.stage.specs.Demand3.{GoesTo}
-use Rattle.stage.specs.Search.{winner, searched}
+use Rattle.stage.specs.Search.{countersNeeded, winner, searched}
 
 -- Running the steps and undoing them cancel, both ways, on any three planes of whole numbers.
 abbrev pub StepsCancel : Type 0
@@ -32,15 +32,33 @@ abbrev pub FilterKeepsRange : Type 0
 FilterKeepsRange =
     (w h f below above : ℕ) (a : List ℤ) → AllIn below above a → (i : ℕ) → In below above (filtered w h f a i)
 
--- The ranges computed from the steps are the transform's row of 01's table, at every depth.
+-- "Equal depths give 01's ranges": where each plane has depth b, the ranges computed from the steps are the transform's row of 01's table.
 abbrev pub RangesAreTable : Type 0
-RangesAreTable = (s : Settings) → 2 ≤ s .depth → finishedRanges s ≡ getD (depthTable (s .depth)) (s .transform) (sampleRanges s)
+RangesAreTable =
+    (s : Settings) (b : ℕ) → 2 ≤ b → s .depths ≡ each b → finishedRanges s ≡ getD (depthTable b) (s .transform) (sampleRanges s)
 
--- After YCoCg-R's second step plane 3 lies in −H to 3H − 2.
+-- At any depths they are the transform's row by the planes' highest samples.
+abbrev pub RangesAreRows : Type 0
+RangesAreRows =
+    (s : Settings)
+    → finishedRanges s
+    ≡ getD (threeRows (maxSample (s .depths .c1)) (maxSample (s .depths .c2)) (maxSample (s .depths .c3))) (s .transform) (sampleRanges s)
+
+-- Deeper planes have ranges as wide or wider, so that D grows with the depths.
+abbrev pub DeeperIsWider : Type 0
+DeeperIsWider =
+    (s S : Settings) → s .transform ≡ S .transform → ((c : Plane) → depthAt s c ≤ depthAt S c)
+    → AllInside (finishedRanges s) (finishedRanges S) × (widest s ≤ widest S)
+
+-- Where no depth is above b, 14 × H − 7 counters are enough for every transform: as many as YCoCg-R needs where each plane has depth b.
+abbrev pub CountersEnough : Type 0
+CountersEnough = (s : Settings) (b : ℕ) → 2 ≤ b → ((c : Plane) → depthAt s c ≤ b) → countersNeeded s ≤ 14 * 2 ^ (b - 1) - 7
+
+-- After YCoCg-R's second step plane 3 lies in −H to 3H − 2 where each plane has depth b.
 abbrev pub SecondStepRange : Type 0
 SecondStepRange =
-    (s : Settings) → 2 ≤ s .depth
-    → ranges (take 2 YCoCg-R) (sampleRanges s) .c3 ≡ record { below = 2 ^ (s .depth - 1); above = 3 * 2 ^ (s .depth - 1) - 2 }
+    (s : Settings) (b : ℕ) → 2 ≤ b → s .depths ≡ each b
+    → ranges (take 2 YCoCg-R) (sampleRanges s) .c3 ≡ record { below = 2 ^ (b - 1); above = 3 * 2 ^ (b - 1) - 2 }
 
 -- After its first n steps a picture's samples lie within the ranges computed from these steps, in every setup that keeps ranges.
 abbrev pub StepsKeepRanges : Type 0
@@ -51,26 +69,26 @@ StepsKeepRanges =
 -- "After its second step plane 3 lies in −H to 3H − 2": so do the samples of every picture.
 abbrev pub SecondStepSamples : Type 0
 SecondStepSamples =
-    (s : Settings) (φ : List ℕ) (p : Planes) → 2 ≤ s .depth → Picture s p
-    → AllIn (2 ^ (s .depth - 1)) (3 * 2 ^ (s .depth - 1) - 2) (run (setup s φ) (take 2 YCoCg-R) p .c3)
+    (s : Settings) (b : ℕ) (φ : List ℕ) (p : Planes) → 2 ≤ b → s .depths ≡ each b → Picture s p
+    → AllIn (2 ^ (b - 1)) (3 * 2 ^ (b - 1) - 2) (run (setup s φ) (take 2 YCoCg-R) p .c3)
 
 -- Demand 3's "each of their numbers lies within the range stated for its plane", with the ranges as 01 states them.
 abbrev pub WithinTable : Type 0
 WithinTable =
-    (s : Settings) (φ : List ℕ) (p q : Planes) → 2 ≤ s .depth → GoesTo s φ p q
-    → InRanges (getD (depthTable (s .depth)) (s .transform) (sampleRanges s)) q
+    (s : Settings) (b : ℕ) (φ : List ℕ) (p q : Planes) → 2 ≤ b → s .depths ≡ each b → GoesTo s φ p q
+    → InRanges (getD (depthTable b) (s .transform) (sampleRanges s)) q
 
 -- Every number met lies within ±2^19: before and after each step of a picture's way forward, and of the way back of planes that
 -- lie within their ranges, in every setup that keeps ranges.
 abbrev pub MetForward : Type 0
 MetForward =
-    (s : Settings) (σ : Setup) (n : ℕ) (p : Planes) → s .depth ≤ 16 → KeepsRanges (sampleRanges s) σ → InRanges (sampleRanges s) p
-    → InRanges bounded (run σ (take n (steps (s .transform))) p)
+    (s : Settings) (σ : Setup) (n : ℕ) (p : Planes) → ((c : Plane) → depthAt s c ≤ 16) → KeepsRanges (sampleRanges s) σ
+    → InRanges (sampleRanges s) p → InRanges bounded (run σ (take n (steps (s .transform))) p)
 
 abbrev pub MetBack : Type 0
 MetBack =
-    (s : Settings) (σ : Setup) (n : ℕ) (q : Planes) → s .depth ≤ 16 → KeepsRanges (sampleRanges s) σ → InRanges (finishedRanges s) q
-    → InRanges bounded (undo σ (drop n (steps (s .transform))) q)
+    (s : Settings) (σ : Setup) (n : ℕ) (q : Planes) → ((c : Plane) → depthAt s c ≤ 16) → KeepsRanges (sampleRanges s) σ
+    → InRanges (finishedRanges s) q → InRanges bounded (undo σ (drop n (steps (s .transform))) q)
 
 -- The winner f at place k of filters 0 to n − 1, by the estimates e: it is one of them or the present filter; no filter's estimate is
 -- lower; the present filter stays if it ties; else the lowest number wins.

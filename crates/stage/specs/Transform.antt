@@ -7,8 +7,8 @@ use mathlib.Core.List.{List, [], _∷_, _++_}
 use Prim.Native.Nat.{ℕ}
 use lib.Dec.{leb, eqb}
 use lib.ListN.{length, getD}
-use Rattle.stage.specs.Answers.{Test, _else_, Outcome, outcome, between, sized}
-use Rattle.stage.specs.Settings.{Settings, pixels}
+use Rattle.stage.specs.Answers.{Test, _else_, Outcome, outcome, sized}
+use Rattle.stage.specs.Settings.{Settings, depthsAllowed, pixels}
 use Rattle.stage.specs.Planes.{Plane, Triple, Planes, get, mapTriple}
 use Rattle.stage.specs.Steps.{Setup, steps, places, run, undo}
 use Rattle.stage.specs.Ranges.{sampleRanges, InRanges, withinRanges}
@@ -35,7 +35,7 @@ allEqual n l = eqb (l .c1) n && (eqb (l .c2) n && eqb (l .c3) n)
 abbrev pub settingsTests : (s : Settings) (choices : Bool) (l : Triple ℕ) → List Test
 settingsTests s choices l =
     (sized (s .width) (s .height) else 2)
-    ∷ (between 2 16 (s .depth) else 5)
+    ∷ (depthsAllowed (s .depths) else 5)
     ∷ (leb (s .transform) 3 else 6)
     ∷ (choices else 7)
     ∷ (allEqual (pixels s) l else 8)
@@ -57,7 +57,7 @@ untransformed s φ q = undo (setup s φ) (steps (s .transform)) q
 abbrev pub HasSize : Settings → Planes → Type 0
 HasSize s p = (c : Plane) → length (get p c) ≡ pixels s
 
--- A picture of these settings has this size and every sample in 0 to M; the second as a test.
+-- A picture of these settings has this size, and every sample of a plane is in 0 to M at the plane's depth; the second as a test.
 pub record Picture (s : Settings) (p : Planes) : Type 0 where
   pub size : HasSize s p
   pub samples : InRanges (sampleRanges s) p

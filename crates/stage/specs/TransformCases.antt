@@ -1,18 +1,19 @@
 -- Cases of `forward` and `inverse` beyond 01's marked ones: its trap of halves, its limits, the order of refusals, the ranges at depth
 -- 8, and null steps. The planes of six pixels come from a second implementation of 01.
 use mathlib.Core.List.{List, [], _∷_}
-use Prim.Native.Nat.{ℕ, _+_, _*_}
+use Prim.Native.Nat.{ℕ}
 use lib.IntN.{ℤ, pos}
 use Rattle.stage.specs.Answers.{number}
-use Rattle.stage.specs.Settings.{settingsOf}
+use Rattle.stage.specs.Settings.{each, settingsOf}
 use Rattle.stage.specs.Planes.{Planes, triple}
-use Rattle.stage.specs.Ranges.{rangeRow, finishedRanges, bounded, widest}
+use Rattle.stage.specs.Ranges.{rangeRow, finishedRanges, bounded}
 use Rattle.stage.specs.Transform.{forward, inverse}
+use Rattle.stage.specs.Search.{countersNeeded}
 use Rattle.stage.specs.Case.{Value, Case, _gives_, Hold, call, count, ranges, minus, pixel, there, back, accepted, refuses}
 
 -- one pixel at depth b through RDgDb with filters 0
 abbrev one : ℕ → Planes → Value
-one b p = call (forward (settingsOf 1 1 b 2) (0 ∷ 0 ∷ []) p)
+one b p = call (forward (settingsOf 1 1 (each b) 2) (0 ∷ 0 ∷ []) p)
 
 -- the same sample in all planes, which RDgDb takes to it, 0 and 0
 abbrev grey : ℤ → Planes
@@ -47,27 +48,27 @@ bright = grey (pos 256)
 unfoldable pub planeCases : List Case
 planeCases =
     -- "Halving −25 to −12: rounding down gives −13"
-    (call (forward (settingsOf 1 1 8 1) (0 ∷ 0 ∷ 0 ∷ 0 ∷ []) (pixel (pos 10) (pos 200) (pos 35)))
+    (call (forward (settingsOf 1 1 (each 8) 1) (0 ∷ 0 ∷ 0 ∷ 0 ∷ []) (pixel (pos 10) (pos 200) (pos 35)))
     gives accepted (pixel (minus 25) (pos 178) (pos 111)))
-    ∷ (call (inverse (settingsOf 1 1 8 1) (0 ∷ 0 ∷ 0 ∷ 0 ∷ []) (pixel (minus 25) (pos 178) (pos 111)))
+    ∷ (call (inverse (settingsOf 1 1 (each 8) 1) (0 ∷ 0 ∷ 0 ∷ 0 ∷ []) (pixel (minus 25) (pos 178) (pos 111)))
     gives accepted (pixel (pos 10) (pos 200) (pos 35)))
     -- "Each filtered value is a place with its own filter", at a size whose width is not its height; and back
-    ∷ (call (forward (settingsOf 3 2 8 0) (1 ∷ 2 ∷ 3 ∷ 4 ∷ []) six) gives accepted sixRCT)
-    ∷ (call (inverse (settingsOf 3 2 8 0) (1 ∷ 2 ∷ 3 ∷ 4 ∷ []) sixRCT) gives accepted six)
-    ∷ (call (forward (settingsOf 2 3 8 1) (5 ∷ 1 ∷ 2 ∷ 12 ∷ []) six) gives accepted sixYCoCg-R)
-    ∷ (call (inverse (settingsOf 2 3 8 1) (5 ∷ 1 ∷ 2 ∷ 12 ∷ []) sixYCoCg-R) gives accepted six)
+    ∷ (call (forward (settingsOf 3 2 (each 8) 0) (1 ∷ 2 ∷ 3 ∷ 4 ∷ []) six) gives accepted sixRCT)
+    ∷ (call (inverse (settingsOf 3 2 (each 8) 0) (1 ∷ 2 ∷ 3 ∷ 4 ∷ []) sixRCT) gives accepted six)
+    ∷ (call (forward (settingsOf 2 3 (each 8) 1) (5 ∷ 1 ∷ 2 ∷ 12 ∷ []) six) gives accepted sixYCoCg-R)
+    ∷ (call (inverse (settingsOf 2 3 (each 8) 1) (5 ∷ 1 ∷ 2 ∷ 12 ∷ []) sixYCoCg-R) gives accepted six)
     -- "Values at depth 8 in brackets": RCT, plane 2 "−128 to 382"
-    ∷ (ranges (finishedRanges (settingsOf 1 1 8 0)) gives ranges (rangeRow 255 255 128 382 255 255))
+    ∷ (ranges (finishedRanges (settingsOf 1 1 (each 8) 0)) gives ranges (rangeRow 255 255 128 382 255 255))
     -- YCoCg-R, plane 2 "−382 to 383", plane 3 "−319 to 573"
-    ∷ (ranges (finishedRanges (settingsOf 1 1 8 1)) gives ranges (rangeRow 255 255 382 383 319 573))
+    ∷ (ranges (finishedRanges (settingsOf 1 1 (each 8) 1)) gives ranges (rangeRow 255 255 382 383 319 573))
     -- RDgDb, "plane 1, 0 to M"
-    ∷ (ranges (finishedRanges (settingsOf 1 1 8 2)) gives ranges (rangeRow 0 255 255 255 255 255))
+    ∷ (ranges (finishedRanges (settingsOf 1 1 (each 8) 2)) gives ranges (rangeRow 0 255 255 255 255 255))
     -- LDgEb, plane 1 "−127 to 383", plane 3 "−383 to 382"
-    ∷ (ranges (finishedRanges (settingsOf 1 1 8 3)) gives ranges (rangeRow 127 383 255 255 383 382))
+    ∷ (ranges (finishedRanges (settingsOf 1 1 (each 8) 3)) gives ranges (rangeRow 127 383 255 255 383 382))
     -- ±2^19, which holds every number met
     ∷ (ranges bounded gives ranges (rangeRow 524288 524288 524288 524288 524288 524288))
     -- "2 × D + 1 counters .. 1,785 counters (depth 8, YCoCg-R)"
-    ∷ (count (2 * widest (settingsOf 1 1 8 1) + 1) gives count 1785)
+    ∷ (count (countersNeeded (settingsOf 1 1 (each 8) 1)) gives count 1785)
     ∷ []
 
 -- the pixel comes back
@@ -100,12 +101,12 @@ nullCases =
 unfoldable pub limitCases : List Case
 limitCases =
     -- "Width 8,192 passes, 8,193 gives 2": what passes is refused later, for its length
-    (call (forward (settingsOf 8192 1 8 2) (0 ∷ 0 ∷ []) bright) gives refuses 8 bright)
-    ∷ (call (forward (settingsOf 1 8192 8 2) (0 ∷ 0 ∷ []) bright) gives refuses 8 bright)
-    ∷ (call (forward (settingsOf 8193 1 8 2) (0 ∷ 0 ∷ []) bright) gives refuses 2 bright)
-    ∷ (call (forward (settingsOf 1 8193 8 2) (0 ∷ 0 ∷ []) bright) gives refuses 2 bright)
-    ∷ (call (forward (settingsOf 0 1 8 2) (0 ∷ 0 ∷ []) bright) gives refuses 2 bright)
-    ∷ (call (forward (settingsOf 1 0 8 2) (0 ∷ 0 ∷ []) bright) gives refuses 2 bright)
+    (call (forward (settingsOf 8192 1 (each 8) 2) (0 ∷ 0 ∷ []) bright) gives refuses 8 bright)
+    ∷ (call (forward (settingsOf 1 8192 (each 8) 2) (0 ∷ 0 ∷ []) bright) gives refuses 8 bright)
+    ∷ (call (forward (settingsOf 8193 1 (each 8) 2) (0 ∷ 0 ∷ []) bright) gives refuses 2 bright)
+    ∷ (call (forward (settingsOf 1 8193 (each 8) 2) (0 ∷ 0 ∷ []) bright) gives refuses 2 bright)
+    ∷ (call (forward (settingsOf 0 1 (each 8) 2) (0 ∷ 0 ∷ []) bright) gives refuses 2 bright)
+    ∷ (call (forward (settingsOf 1 0 (each 8) 2) (0 ∷ 0 ∷ []) bright) gives refuses 2 bright)
     -- "Depth 2 and 16 pass, 1 and 17 give 5"
     ∷ (one 2 (grey (pos 3)) gives accepted (pixel (pos 3) (pos 0) (pos 0)))
     ∷ (one 16 (grey (pos 65535)) gives accepted (pixel (pos 65535) (pos 0) (pos 0)))
@@ -126,26 +127,26 @@ limitCases =
 -- "Tested in that order": a call that every test refuses, and one test fewer each time
 unfoldable pub orderCases : List Case
 orderCases =
-    (call (forward (settingsOf 0 1 1 4) (13 ∷ []) bright) gives refuses 2 bright)
-    ∷ (call (forward (settingsOf 2 1 1 4) (13 ∷ []) bright) gives refuses 5 bright)
-    ∷ (call (forward (settingsOf 2 1 8 4) (13 ∷ []) bright) gives refuses 6 bright)
+    (call (forward (settingsOf 0 1 (each 1) 4) (13 ∷ []) bright) gives refuses 2 bright)
+    ∷ (call (forward (settingsOf 2 1 (each 1) 4) (13 ∷ []) bright) gives refuses 5 bright)
+    ∷ (call (forward (settingsOf 2 1 (each 8) 4) (13 ∷ []) bright) gives refuses 6 bright)
     -- "7 wrong number of choices, or one above 12"
-    ∷ (call (forward (settingsOf 2 1 8 2) (13 ∷ []) bright) gives refuses 7 bright)
-    ∷ (call (forward (settingsOf 2 1 8 2) (0 ∷ 0 ∷ 0 ∷ []) bright) gives refuses 7 bright)
-    ∷ (call (forward (settingsOf 2 1 8 2) (0 ∷ 13 ∷ []) bright) gives refuses 7 bright)
-    ∷ (call (forward (settingsOf 2 1 8 2) (0 ∷ 12 ∷ []) bright) gives refuses 8 bright)
-    ∷ (call (forward (settingsOf 1 1 8 2) (0 ∷ 12 ∷ []) bright) gives refuses 11 bright)
+    ∷ (call (forward (settingsOf 2 1 (each 8) 2) (13 ∷ []) bright) gives refuses 7 bright)
+    ∷ (call (forward (settingsOf 2 1 (each 8) 2) (0 ∷ 0 ∷ 0 ∷ []) bright) gives refuses 7 bright)
+    ∷ (call (forward (settingsOf 2 1 (each 8) 2) (0 ∷ 13 ∷ []) bright) gives refuses 7 bright)
+    ∷ (call (forward (settingsOf 2 1 (each 8) 2) (0 ∷ 12 ∷ []) bright) gives refuses 8 bright)
+    ∷ (call (forward (settingsOf 1 1 (each 8) 2) (0 ∷ 12 ∷ []) bright) gives refuses 11 bright)
     -- "gives its number alone", and C callers see 0 for success
-    ∷ (count (number (forward (settingsOf 1 1 8 2) (0 ∷ 12 ∷ []) bright .reply)) gives count 11)
-    ∷ (count (number (forward (settingsOf 1 1 8 2) (0 ∷ 12 ∷ []) (grey (pos 0)) .reply)) gives count 0)
+    ∷ (count (number (forward (settingsOf 1 1 (each 8) 2) (0 ∷ 12 ∷ []) bright .reply)) gives count 11)
+    ∷ (count (number (forward (settingsOf 1 1 (each 8) 2) (0 ∷ 12 ∷ []) (grey (pos 0)) .reply)) gives count 0)
     -- the inverse
-    ∷ (call (inverse (settingsOf 0 1 1 4) (13 ∷ []) bright) gives refuses 2 bright)
-    ∷ (call (inverse (settingsOf 2 1 1 4) (13 ∷ []) bright) gives refuses 5 bright)
-    ∷ (call (inverse (settingsOf 2 1 8 4) (13 ∷ []) bright) gives refuses 6 bright)
-    ∷ (call (inverse (settingsOf 2 1 8 2) (13 ∷ []) bright) gives refuses 7 bright)
-    ∷ (call (inverse (settingsOf 2 1 8 2) (0 ∷ 13 ∷ []) bright) gives refuses 7 bright)
-    ∷ (call (inverse (settingsOf 2 1 8 2) (0 ∷ 12 ∷ []) bright) gives refuses 8 bright)
-    ∷ (call (inverse (settingsOf 1 1 8 2) (0 ∷ 12 ∷ []) bright) gives refuses 12 bright)
+    ∷ (call (inverse (settingsOf 0 1 (each 1) 4) (13 ∷ []) bright) gives refuses 2 bright)
+    ∷ (call (inverse (settingsOf 2 1 (each 1) 4) (13 ∷ []) bright) gives refuses 5 bright)
+    ∷ (call (inverse (settingsOf 2 1 (each 8) 4) (13 ∷ []) bright) gives refuses 6 bright)
+    ∷ (call (inverse (settingsOf 2 1 (each 8) 2) (13 ∷ []) bright) gives refuses 7 bright)
+    ∷ (call (inverse (settingsOf 2 1 (each 8) 2) (0 ∷ 13 ∷ []) bright) gives refuses 7 bright)
+    ∷ (call (inverse (settingsOf 2 1 (each 8) 2) (0 ∷ 12 ∷ []) bright) gives refuses 8 bright)
+    ∷ (call (inverse (settingsOf 1 1 (each 8) 2) (0 ∷ 12 ∷ []) bright) gives refuses 12 bright)
     ∷ []
 
 abbrev pub TransformCasesHold : Type 0

@@ -3,6 +3,7 @@
 ghost use mathlib.Core.Path.{_≡_};
 ghost use Rattle.stage.specs.Answers.{between, sized};
 ghost use Rattle.stage.specs.Planes.{triple, samePlane};
+ghost use Rattle.stage.specs.Settings.{each, depthsAllowed};
 ghost use Rattle.stage.specs.Transform.{allEqual};
 
 pub enum Plane {
@@ -33,11 +34,29 @@ pub fn same_plane(a: Plane, b: Plane) -> bool
     }
 }
 
-// A picture's width, height and depth, and the number of its transform. Each call tests them.
+// The depths of planes 1, 2 and 3: how many bits a sample has.
+pub struct Depths {
+    pub c1: u32,
+    pub c2: u32,
+    pub c3: u32,
+}
+
+// The same depth for each plane.
+pub fn each(depth: u32) -> Depths
+    ensures { λ r. ⌜ r ≡ each depth ⌝ }
+{
+    Depths {
+        c1: depth,
+        c2: depth,
+        c3: depth,
+    }
+}
+
+// A picture's width, height and depths, and the number of its transform. Each call tests them.
 pub struct Settings {
     pub width: u32,
     pub height: u32,
-    pub depth: u32,
+    pub depths: Depths,
     pub transform: u32,
 }
 
@@ -63,6 +82,13 @@ pub fn is_sized(width: u32, height: u32) -> bool
     ensures { λ r. ⌜ r ≡ sized width height ⌝ }
 {
     ((1 <= width) & (width <= 8192)) & ((1 <= height) & (height <= 8192))
+}
+
+// Whether each depth is 2 to 16.
+pub fn are_depths(d: Depths) -> bool
+    ensures { λ r. ⌜ r ≡ depthsAllowed d ⌝ }
+{
+    ((2 <= d.c1) & (d.c1 <= 16)) & (((2 <= d.c2) & (d.c2 <= 16)) & ((2 <= d.c3) & (d.c3 <= 16)))
 }
 
 // Whether three lengths are n.

@@ -1,4 +1,3 @@
-pub mod FinishedRanges
 pub mod Refusals
 pub mod Calls
 pub mod Theorems

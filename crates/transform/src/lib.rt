@@ -11,7 +11,6 @@ use settings::refusal;
 use stage::Answer;
 use stage::Settings;
 
-pub mod ranges;
 pub mod settings;
 
 // The planes that a picture goes to. Refused: 2, 5, 6, 7, 8 for settings, 11 for planes that hold no picture.

@@ -7,7 +7,7 @@ ghost use Rattle.stage.specs.Transform.{choicesFit, settingsTests};
 use lifting::passes::places;
 use stage::Settings;
 use stage::all_equal;
-use stage::is_between;
+use stage::are_depths;
 use stage::is_sized;
 
 // Whether there is a choice for each place, none above 12.
@@ -28,13 +28,13 @@ pub fn choices_fit(settings: Settings, choices: &[u8]) -> bool
 }
 
 // The number of the first test that fails, or 0.
-fn first_refusal(size: bool, depth: bool, transform: bool, choices: bool, lengths: bool) -> u32
-    ensures { λ r. ⌜ r ≡ refusal ((size else 2) ∷ (depth else 5) ∷ (transform else 6) ∷ (choices else 7) ∷ (lengths else 8) ∷ []) ⌝ }
+fn first_refusal(size: bool, depths: bool, transform: bool, choices: bool, lengths: bool) -> u32
+    ensures { λ r. ⌜ r ≡ refusal ((size else 2) ∷ (depths else 5) ∷ (transform else 6) ∷ (choices else 7) ∷ (lengths else 8) ∷ []) ⌝ }
 {
     if !size {
         return 2;
     }
-    if !depth {
+    if !depths {
         return 5;
     }
     if !transform {
@@ -56,7 +56,7 @@ pub fn refusal(settings: Settings, choices: bool, n1: usize, n2: usize, n3: usiz
 {
     first_refusal(
         is_sized(settings.width, settings.height),
-        is_between(2, 16, settings.depth),
+        are_depths(settings.depths),
         settings.transform <= 3,
         choices,
         all_equal(

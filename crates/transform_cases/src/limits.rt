@@ -3,22 +3,24 @@ use crate::text::print_answer;
 use crate::text::print_choices;
 use crate::text::print_planes;
 use case_text::print;
+use stage::Depths;
 use stage::Settings;
+use stage::each;
 use transform::forward;
 use transform::inverse;
 
-fn settings(width: u32, height: u32, depth: u32, transform: u32) -> Settings {
+fn settings(width: u32, height: u32, depths: Depths, transform: u32) -> Settings {
     Settings {
         width: width,
         height: height,
-        depth: depth,
+        depths: depths,
         transform: transform,
     }
 }
 
 // Forward and, on what that leaves, back. Only the answers are printed.
 fn answers(width: u32, height: u32, c1: &mut [i32], c2: &mut [i32], c3: &mut [i32]) {
-    let s = settings(width, height, 8, 0);
+    let s = settings(width, height, each(8), 0);
     let choices = [1u8; 4];
     print_choices(s, &choices);
     print_answer(b" forward", forward(s, &choices, c1, c2, c3));
@@ -60,16 +62,56 @@ fn pixel(s: Settings, choices: &[u8], red: i32, green: i32, blue: i32) {
     print(b"\n");
 }
 
-fn of_depth(depth: u32) {
-    pixel(settings(1, 1, depth, 0), &[0; 4], 3, 1, 2);
+fn of_depths(c1: u32, c2: u32, c3: u32) {
+    let depths = Depths {
+        c1: c1,
+        c2: c2,
+        c3: c3,
+    };
+    pixel(settings(1, 1, depths, 0), &[0; 4], 3, 1, 2);
+}
+
+// Depths past the limits, of all planes and of one.
+fn other_depths() {
+    of_depths(1, 1, 1);
+    of_depths(2, 2, 2);
+    of_depths(16, 16, 16);
+    of_depths(17, 17, 17);
+    of_depths(1, 8, 8);
+    of_depths(8, 17, 8);
+    of_depths(8, 8, 1);
 }
 
 fn of_samples(red: i32, green: i32, blue: i32) {
-    pixel(settings(1, 1, 8, 0), &[0; 4], red, green, blue);
+    pixel(settings(1, 1, each(8), 0), &[0; 4], red, green, blue);
 }
 
 fn of_settings(width: u32, height: u32, transform: u32, choices: &[u8]) {
-    pixel(settings(width, height, 8, transform), choices, 10, 200, 60);
+    pixel(
+        settings(width, height, each(8), transform),
+        choices,
+        10,
+        200,
+        60,
+    );
+}
+
+// Five, six and five bits.
+fn of_pixel(red: i32, green: i32, blue: i32) {
+    let depths = Depths {
+        c1: 5,
+        c2: 6,
+        c3: 5,
+    };
+    pixel(settings(1, 1, depths, 0), &[0; 4], red, green, blue);
+}
+
+// The highest samples, and one past the highest of each plane.
+fn mobile() {
+    of_pixel(31, 63, 31);
+    of_pixel(32, 63, 31);
+    of_pixel(31, 64, 31);
+    of_pixel(31, 32, 32);
 }
 
 // Sizes of no sample and of two, a transform past the last, and choices too many, too few and too high, with the highest that pass.
@@ -98,14 +140,12 @@ fn null_steps() {
 pub(crate) fn limits() {
     longest();
     too_long();
-    of_depth(1);
-    of_depth(2);
-    of_depth(16);
-    of_depth(17);
+    other_depths();
     of_samples(255, 0, 255);
     of_samples(256, 0, 255);
     of_samples(0, 256, 0);
     of_samples(0, 0, -1);
+    mobile();
     other_settings();
     null_steps();
 }

@@ -1,6 +1,6 @@
-// Generated pictures of small sizes over all transforms and depths, with each filter at each place.
+// Generated pictures of small sizes over all transforms, with depths of 2 to 16 beside each other and each filter at each place.
 ghost use Prim.Native.Nat.{_≤_};
-ghost use Rattle.case_pictures.specs.Generated.{Levels};
+ghost use Rattle.case_pictures.specs.Generated.{UpTo16};
 use crate::text::print_answer;
 use crate::text::print_choices;
 use crate::text::print_planes;
@@ -12,25 +12,25 @@ use case_text::print;
 use case_text::print_field;
 use case_text::print_sample;
 use stage::Answer;
+use stage::Depths;
 use stage::Settings;
 use transform::forward;
 use transform::inverse;
 
-// The generator's number before each plane, and M + 1.
+// The generator's number before each plane.
 struct Generated {
     x1: u32,
     x2: u32,
     x3: u32,
-    levels: u32,
 }
 
 // Whether the planes hold the picture.
-fn print_compared(p: Generated, c1: &[i32], c2: &[i32], c3: &[i32])
-    requires { ⌜ Levels (p .levels) ⌝ }
+fn print_compared(d: Depths, p: Generated, c1: &[i32], c2: &[i32], c3: &[i32])
+    requires { ⌜ UpTo16 d ⌝ }
 {
-    let first = is_filled(c1, p.levels, p.x1);
-    let second = is_filled(c2, p.levels, p.x2);
-    let third = is_filled(c3, p.levels, p.x3);
+    let first = is_filled(c1, levels(d.c1), p.x1);
+    let second = is_filled(c2, levels(d.c2), p.x2);
+    let third = is_filled(c3, levels(d.c3), p.x3);
     if first & (second & third) {
         print(b" the picture\n");
     } else {
@@ -46,11 +46,11 @@ fn run(s: Settings, choices: &[u8], c1: &mut [i32], c2: &mut [i32], c3: &mut [i3
 }
 
 fn undo(s: Settings, p: Generated, choices: &[u8], c1: &mut [i32], c2: &mut [i32], c3: &mut [i32])
-    requires { ⌜ Levels (p .levels) ⌝ }
+    requires { ⌜ UpTo16 (s .depths) ⌝ }
 {
     let a = inverse(s, choices, c1, c2, c3);
     print_answer(b"inverse", a);
-    print_compared(p, c1, c2, c3);
+    print_compared(s.depths, p, c1, c2, c3);
 }
 
 // Puts a number at an index and answers the number that stood there.
@@ -124,7 +124,7 @@ fn there_and_back(
     c2: &mut [i32],
     c3: &mut [i32],
 )
-    requires { ⌜ Levels (p .levels) ⌝ }
+    requires { ⌜ UpTo16 (s .depths) ⌝ }
 {
     run(s, choices, c1, c2, c3);
     undo(s, p, choices, c1, c2, c3);
@@ -139,7 +139,7 @@ fn show(
     c2: &mut [i32],
     c3: &mut [i32],
 )
-    requires { ⌜ Levels (p .levels) ⌝ }
+    requires { ⌜ UpTo16 (s .depths) ⌝ }
 {
     print_field(b"picture", k);
     print(b" ");
@@ -159,23 +159,21 @@ fn fill_and_show(
     c2: &mut [i32],
     c3: &mut [i32],
 )
-    requires { ⌜ s .depth ≤ 16 ⌝ }
+    requires { ⌜ UpTo16 (s .depths) ⌝ }
 {
-    let n = levels(s.depth);
-    let x2 = fill(c1, n, k);
-    let x3 = fill(c2, n, x2);
-    fill(c3, n, x3);
+    let x2 = fill(c1, levels(s.depths.c1), k);
+    let x3 = fill(c2, levels(s.depths.c2), x2);
+    fill(c3, levels(s.depths.c3), x3);
     let p = Generated {
         x1: k,
         x2: x2,
         x3: x3,
-        levels: n,
     };
     show(k, s, p, choices, c1, c2, c3);
 }
 
 fn lend(k: u32, s: Settings, choices: &[u8], n: usize)
-    requires { ⌜ (s .depth ≤ 16) × (n ≤ 20) ⌝ }
+    requires { ⌜ UpTo16 (s .depths) × (n ≤ 20) ⌝ }
 {
     let mut c1 = [0i32; 20];
     let mut c2 = [0i32; 20];
@@ -185,7 +183,7 @@ fn lend(k: u32, s: Settings, choices: &[u8], n: usize)
 
 // With the filters of picture k, as many as its transform has places.
 fn choose(k: u32, s: Settings, n: usize)
-    requires { ⌜ (s .depth ≤ 16) × (n ≤ 20) ⌝ }
+    requires { ⌜ UpTo16 (s .depths) × (n ≤ 20) ⌝ }
 {
     let f1 = choice(k / 4, 0);
     let f2 = choice(k / 4, 1);
@@ -205,7 +203,11 @@ fn picture(k: u32, width: u32, height: u32, n: usize)
     let s = Settings {
         width: width,
         height: height,
-        depth: 2 + k % 15,
+        depths: Depths {
+            c1: 2 + k % 15,
+            c2: 16 - k % 15,
+            c3: 2 + k / 4 % 15,
+        },
         transform: k % 4,
     };
     choose(k, s, n);

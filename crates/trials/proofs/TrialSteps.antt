@@ -15,7 +15,7 @@ use Rattle.integers.proofs.Slices.{slice-none, slice-back}
 use Rattle.stage.specs.declared.Settings.{Settings}
 use Rattle.stage.specs.declared.Plane.{Plane}
 use Rattle.stage.specs.declared.Plane.the-variants.{C1, C2, C3}
-use Rattle.stage.specs.Settings.{Allowed}
+use Rattle.stage.specs.Settings.{depthAt, Allowed}
 use Rattle.stage.specs.Planes.{Triple, Planes, triple, get, samePlane}
 use Rattle.stage.specs.Steps.{Setup, Step, Term, _ᵈ_, _⊕_, _/2, _/4, step, run, undo, steps}
 use Rattle.stage.specs.Ranges.{widest}
@@ -117,7 +117,7 @@ trial-sum s k n φ q p {b} {base} {e} all ran set-is base-is e-is =
 
 -- ---- the steps from k on, run and undone, or only run
 module _ {s : Settings} {φ : List ℕ} {k n : ℕ} (fit : StepsFit s φ k n) (q : Planes) {p : Planes} (ran : p ≡ run (setup s φ) (slice (steps (s .transform)) k n) q) where
-  pub ready-left : s .depth ≤ 16 → AtStep s k q → (u : Bool) {b : ℕ} → b ≡ cond u k n → UndoReady s φ b n p
+  pub ready-left : ((c : Plane) → depthAt s c ≤ 16) → AtStep s k q → (u : Bool) {b : ℕ} → b ≡ cond u k n → UndoReady s φ b n p
   ready-left deep z true e = rw e (ready-undo deep fit z ran)
   ready-left deep z false e = rw e (record {
     fit = record { transform = fit .transform; order = omega arith; last = fit .last; choices = fit .choices };

@@ -12,9 +12,9 @@ use lifting::passes::last_change;
 use lifting::passes::step_count;
 use lifting::steps::run_steps;
 use lifting::steps::undo_steps;
+use ranges::widest;
 use stage::Plane;
 use stage::Settings;
-use transform::ranges::widest;
 
 // Some of the three planes.
 pub struct PlaneSet {

@@ -7,6 +7,9 @@ use Rattle.report_text.proofs.Replies.{found-by}
 use Rattle.report_text.proofs.searches.search_with.Statement.{statement}
 use Rattle.report_text.proofs.searches.search_with.Tie as tie
 
+each-requires : tie.Need-each-requires
+each-requires c κs = search needs
+
 slice-aggregate-search : tie.Need-slice-aggregate-search
 slice-aggregate-search c = search needs
 
@@ -29,14 +32,16 @@ returns : tie.Need-returns
 unfolding lent
 returns c =
     let r = c .before .before .before .before .before .before .before in
-    let s = r .before .before .before .before .before .before .before in
+    let e = r .before .before .before .before .before .before in
+    let s = e .before .before in
     let a = s .args in
-    found-by (record { width = a .width; height = a .height; depth = a .depth }) (triple (now (a .c1)) (now (a .c2)) (now (a .c3))) (a .transform) (r .search .result) (now (a .choices)) _ (s .pre) (r .search .ensures) (c .outcome .ensures)
+    found-by (record { width = a .width; height = a .height; depth = a .depth }) (triple (now (a .c1)) (now (a .c2)) (now (a .c3))) (a .transform) (r .search .result) (now (a .choices)) _ (s .pre) (rw (e .each .ensures) at (r .search .ensures)) (c .outcome .ensures)
 
 pub search-with-spec : {M : Type 1} → statement M
 search-with-spec =
     tie.close
     (tie.spec
+    each-requires
     slice-aggregate-search
     slice-aggregate-search-2
     slice-aggregate-search-3

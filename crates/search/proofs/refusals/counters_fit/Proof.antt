@@ -1,24 +1,18 @@
 use borrow.Author.Needs.{needs}
 use mathlib.Core.Path.{ap}
-use Prim.Native.Nat.{ℕ, _+_, _*_}
+use Prim.Native.Nat.{ℕ}
 use lib.Dec.{leb}
 use Rattle.search.proofs.refusals.counters_fit.Statement.{statement}
 use Rattle.search.proofs.refusals.counters_fit.Tie as tie
 
-widest-requires : tie.Need-widest-requires
-widest-requires c κs = search needs
+counters-needed-requires : tie.Need-counters-needed-requires
+counters-needed-requires c κs = search needs
 
-cast-d : tie.Need-cast-d
-cast-d c = search needs
-
-mul-result : tie.Need-mul-result
-mul-result c = search needs
-
-add-result : tie.Need-add-result
-add-result c = search needs
+cast-result : tie.Need-cast-result
+cast-result c = search needs
 
 returns : tie.Need-returns
-returns c = ap (λ (d : ℕ). leb (2 * d + 1) (c .before .args .counters)) (c .widest .ensures)
+returns c = ap (λ (n : ℕ). leb n (c .before .args .counters)) (c .counters-needed .ensures)
 
 pub counters-fit-spec : {M : Type 1} → statement M
-counters-fit-spec = tie.close (tie.spec widest-requires cast-d mul-result add-result returns)
+counters-fit-spec = tie.close (tie.spec counters-needed-requires cast-result returns)

@@ -7,10 +7,10 @@ use Rattle.search_cases.proofs.picture.fill.Statement.{statement}
 use Rattle.search_cases.proofs.picture.fill.Tie as tie
 
 abbrev Inv-loop : tie.InvT-loop
-Inv-loop plane₀ s x y₀ base₀ i₀ plane y base i = (i ≤ length plane₀) × (base ≤ 65536) × (length plane ≡ length plane₀)
+Inv-loop plane₀ s levels x y₀ base₀ i₀ plane y base i = (i ≤ length plane₀) × (base ≤ 65536) × (length plane ≡ length plane₀)
 
 abbrev μ-loop : tie.MeasureT-loop
-μ-loop plane₀ s x y₀ base₀ i₀ plane y base i = length plane₀ - i
+μ-loop plane₀ s levels x y₀ base₀ i₀ plane y base i = length plane₀ - i
 
 loop-holds : tie.Need-loop-holds Inv-loop μ-loop
 loop-holds c = search needs
@@ -30,8 +30,8 @@ remainder-requires-2 c κs = search needs
 cast-plane : tie.Need-cast-plane Inv-loop μ-loop
 cast-plane c = search needs
 
-mul-t7 : tie.Need-mul-t7 Inv-loop μ-loop
-mul-t7 c = search needs
+mul-t8 : tie.Need-mul-t8 Inv-loop μ-loop
+mul-t8 c = search needs
 
 slice-set-from-plane : tie.Need-slice-set-from-plane Inv-loop μ-loop
 slice-set-from-plane c = search needs
@@ -66,7 +66,7 @@ fill-spec =
     add-remainder
     remainder-requires-2
     cast-plane
-    mul-t7
+    mul-t8
     slice-set-from-plane
     add-remainder-2
     remainder-requires-3

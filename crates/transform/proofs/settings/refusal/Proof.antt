@@ -11,8 +11,8 @@ use Rattle.transform.proofs.settings.refusal.Tie as tie
 is-sized-requires : tie.Need-is-sized-requires
 is-sized-requires c κs = search needs
 
-is-between-requires : tie.Need-is-between-requires
-is-between-requires c κs = search needs
+are-depths-requires : tie.Need-are-depths-requires
+are-depths-requires c κs = search needs
 
 cast-all-equal : tie.Need-cast-all-equal
 cast-all-equal c = search needs
@@ -37,14 +37,14 @@ returns c =
     let b = c .before .before .before .before .before in
     let s = b .before .before .args in
     c .first-refusal .ensures
-    ∙ first-same (leb (s .settings .transform) 3) (s .choices) (b .before .is-sized .ensures) (b .is-between .ensures) (c .before .all-equal .ensures)
+    ∙ first-same (leb (s .settings .transform) 3) (s .choices) (b .before .is-sized .ensures) (b .are-depths .ensures) (c .before .all-equal .ensures)
 
 pub refusal-spec : {M : Type 1} → statement M
 refusal-spec =
     tie.close
     (tie.spec
     is-sized-requires
-    is-between-requires
+    are-depths-requires
     cast-all-equal
     cast-all-equal-2
     mul-all-equal

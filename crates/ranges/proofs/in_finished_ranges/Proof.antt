@@ -6,10 +6,10 @@ use denote.Ref.{now}
 use Rattle.stage.specs.Planes.{Triple, triple}
 use Rattle.stage.specs.declared.Range.{Range}
 use Rattle.stage.specs.Ranges.{withinRanges}
-use Rattle.transform.specs.FinishedRanges.{readRanges}
-use Rattle.transform.proofs.FinishedRanges.{Ends, read-ends}
-use Rattle.transform.proofs.ranges.in_finished_ranges.Statement.{statement}
-use Rattle.transform.proofs.ranges.in_finished_ranges.Tie as tie
+use Rattle.ranges.specs.Read.{readRanges}
+use Rattle.ranges.proofs.Ends.{Ends, read-ends}
+use Rattle.ranges.proofs.in_finished_ranges.Statement.{statement}
+use Rattle.ranges.proofs.in_finished_ranges.Tie as tie
 
 finished-ranges-requires : tie.Need-finished-ranges-requires
 finished-ranges-requires c κs = search needs

@@ -5,10 +5,10 @@ use native.Mathlib.Omega.{arith}
 use Rattle.stage.specs.Planes.{Triple}
 use Rattle.stage.specs.declared.Range.{Range}
 use Rattle.stage.specs.Ranges.{extent}
-use Rattle.transform.specs.FinishedRanges.{readRanges}
-use Rattle.transform.proofs.FinishedRanges.{Ends, read-ends}
-use Rattle.transform.proofs.ranges.widest.Statement.{statement}
-use Rattle.transform.proofs.ranges.widest.Tie as tie
+use Rattle.ranges.specs.Read.{readRanges}
+use Rattle.ranges.proofs.Ends.{Ends, read-ends}
+use Rattle.ranges.proofs.widest.Statement.{statement}
+use Rattle.ranges.proofs.widest.Tie as tie
 
 finished-ranges-requires : tie.Need-finished-ranges-requires
 finished-ranges-requires c κs = search needs
