@@ -1,5 +1,5 @@
-// Each transform as one table of passes over planes: whatever the code runs of a transform is read from it. (Crate `ranges` has the steps once
-// more, for ranges.)
+// Each transform as one table of passes over planes: whatever the code runs of a transform is read from it. (Crate `ranges` has the steps
+// once more, for ranges.)
 ghost use mathlib.Core.Path.{_≡_};
 ghost use mathlib.Core.Bool.{cond};
 ghost use Prim.Native.Nat.{_+_, _≤_, _<_};

@@ -10,7 +10,7 @@ use Rattle.stage.specs.Settings.{depthAt}
 use Rattle.stage.specs.Planes.{Triple}
 use Rattle.stage.specs.Ranges.{finishedRanges}
 use Rattle.stage.proofs.Numbers.{finished-within}
-use Rattle.ranges.specs.declared.Ranges.{Ranges}
+use Rattle.ranges.specs.declared.finished.Ranges.{Ranges}
 use Rattle.ranges.specs.Read.{readRanges}
 
 -- every end is at most 2^19

@@ -2,7 +2,7 @@
 use Prim.Native.Nat.{_≤_}
 use Rattle.stage.specs.declared.Range.{Range}
 use Rattle.stage.specs.Planes.{Triple, triple}
-use Rattle.ranges.specs.declared.Ranges.{Ranges}
+use Rattle.ranges.specs.declared.finished.Ranges.{Ranges}
 
 abbrev pub readRanges : Ranges → Triple Range
 readRanges r = triple (r .c1) (r .c2) (r .c3)

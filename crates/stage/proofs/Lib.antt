@@ -4,6 +4,7 @@ pub mod StepLists
 pub mod Means
 pub mod StepRanges
 pub mod RangeTable
+pub mod DeeperPlanes
 pub mod Numbers
 pub mod WindowSums
 pub mod Answers

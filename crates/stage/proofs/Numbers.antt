@@ -1,22 +1,19 @@
 -- Every number that the calls meet lies within ±2^19.
-use mathlib.Core.Path.{_≡_, refl, subst}
 use mathlib.Core.Bool.{Bool, _&&_}
-use Prim.Native.Nat.{ℕ, zero, suc, _+_, _*_, _-_, _^_, _≤_, max}
+use Prim.Native.Nat.{ℕ, zero, suc, _^_, _≤_}
 use native.Mathlib.Omega.{arith}
 use lib.Dec.{T, leb, leb→le}
-use lib.Pow.{pow-pos, pow-mono}
-use lib.ListN.{getD, take, drop}
+use lib.ListN.{take, drop}
 use Rattle.integers.specs.Lists.{AllIn}
 use Rattle.integers.proofs.Booleans.{and-iff}
-use Rattle.stage.specs.Settings.{Settings, each, settingsOf, depthAt}
+use Rattle.stage.specs.Settings.{Settings, depthAt}
 use Rattle.stage.specs.Planes.{Plane, C1, C2, C3, Triple, Planes, get}
 use Rattle.stage.specs.Steps.{steps}
-use Rattle.stage.specs.Ranges.{Range, Inside, AllInside, ranges, undoneRanges, sampleRange, sampleRanges, finishedRanges, rangeTable, depthTable, bounded, extent, widest, InRanges}
-use Rattle.stage.specs.Theorems.{DeeperIsWider, CountersEnough, MetForward, MetBack}
+use Rattle.stage.specs.Ranges.{Range, Inside, AllInside, ranges, undoneRanges, sampleRanges, finishedRanges, bounded, extent, widest, InRanges}
+use Rattle.stage.specs.Theorems.{MetForward, MetBack}
 use Rattle.stage.proofs.Triples.{each-plane, each-test}
-use Rattle.stage.specs.Search.{countersNeeded}
-use Rattle.stage.proofs.RangeTable.{pow-split, ranges-are-table}
-use Rattle.stage.proofs.StepRanges.{inside-trans, ranges-grow, keeps-wider, take-inside, drop-inside, ranges-inside, undoneRanges-inside, in-inside, run-in, undo-in}
+use Rattle.stage.proofs.StepRanges.{inside-trans, ranges-grow, keeps-wider, take-inside, drop-inside, undoneRanges-inside, in-inside, run-in, undo-in}
+use Rattle.stage.proofs.DeeperPlanes.{atDepth, up-to}
 
 -- ---- ranges within a range, as a test that computes
 insideTest : Range → Range → Bool
@@ -35,33 +32,9 @@ all-inside-by : (r R : Triple Range) → T (allInsideTest r R) → AllInside r R
 unfolding allInsideTest
 all-inside-by r R t = λ c. inside-by (get r c) (get R c) (each-test (λ (c : Plane). insideTest (get r c) (get R c)) .0 t c)
 
--- ---- deeper planes have wider ranges
-sample-inside : {b B : ℕ} → b ≤ B → Inside (sampleRange b) (sampleRange B)
-sample-inside {b} {B} h = let m = pow-mono {i = b} {j = B} h in omega arith
-
-pub deeper-is-wider : DeeperIsWider
-deeper-is-wider s S same deeper = (inside, omega (arith, inside C1, inside C2, inside C3))
-  where
-    samples : AllInside (sampleRanges s) (sampleRanges S)
-    samples =
-        each-plane (λ (c : Plane). Inside (get (sampleRanges s) c) (get (sampleRanges S) c))
-        (sample-inside (deeper C1)) (sample-inside (deeper C2)) (sample-inside (deeper C3))
-
-    inside : AllInside (finishedRanges s) (finishedRanges S)
-    inside =
-        subst (λ (t : ℕ). AllInside (finishedRanges s) (ranges (steps t) (sampleRanges S))) same
-        (ranges-inside (steps (s .transform)) (sampleRanges s) (sampleRanges S) samples)
-
--- so depth b for each plane holds all depths up to b
-abbrev alike : ℕ → ℕ → Settings
-alike b t = settingsOf 1 1 (each b) t
-
-up-to : (s : Settings) (b : ℕ) → ((c : Plane) → depthAt s c ≤ b) → AllInside (finishedRanges s) (finishedRanges (alike b (s .transform))) × (widest s ≤ widest (alike b (s .transform)))
-up-to s b h = deeper-is-wider s (alike b (s .transform)) refl (each-plane (λ (c : Plane). depthAt s c ≤ depthAt (alike b (s .transform)) c) (h C1) (h C2) (h C3))
-
 -- ---- depth 16 holds all depths: deepest t are the settings of transform t there
 abbrev deepest : ℕ → Settings
-deepest t = alike 16 t
+deepest t = atDepth 16 t
 
 -- the ranges of finished planes at depth 16, and all steps undone from there
 abbrev finished : ℕ → Triple Range
@@ -121,27 +94,3 @@ extent-widest s C3 = omega arith
 
 pub widest-most : (s : Settings) → ((c : Plane) → depthAt s c ≤ 16) → widest s ≤ 262144
 widest-most s h = omega (arith, up-to s 16 h .1, at-deepest (s .transform) .widest-most)
-
--- ---- counters that are enough: no range of 01's table is wider than YCoCg-R's third
-abbrev Narrow : ℕ → Triple Range → Type 0
-Narrow b r =
-    let most = 14 * 2 ^ (b - 2) in
-    (extent (r .c1) + 4 ≤ most) × (extent (r .c2) + 4 ≤ most) × (extent (r .c3) + 4 ≤ most)
-
-at-depth : (b t : ℕ) → 2 ≤ b → Narrow b (finishedRanges (alike b t))
-unfolding rangeTable
-at-depth b t h = rw (ranges-are-table (alike b t) b h refl) (by t (pow-pos (b - 2)) (pow-split b 2 h) (pow-split b 1 (omega arith)))
-  where
-    by : (t : ℕ) → 1 ≤ 2 ^ (b - 2) → 2 ^ b ≡ 2 ^ (b - 2) * 4 → 2 ^ b ≡ 2 ^ (b - 1) * 2
-        → Narrow b (getD (depthTable b) t (sampleRanges (alike b t)))
-    by zero q m n = omega arith
-    by (suc zero) q m n = omega arith
-    by (suc (suc zero)) q m n = omega arith
-    by (suc (suc (suc zero))) q m n = omega arith
-    by (suc (suc (suc (suc t)))) q m n = omega arith
-
-pub counters-enough : CountersEnough
-counters-enough s b h d =
-    let m = pow-split b 2 h in
-    let n = pow-split b 1 (omega arith) in
-    omega (arith, up-to s b d .1, at-depth b (s .transform) h)

@@ -43,13 +43,13 @@ row-of s e =
     ∙ ap (λ (l : List (Triple Range)). getD l (s .transform) (sampleRanges s)) e
 
 -- the ranges of samples where each plane has depth b
-abbrev alike : ℕ → Triple Range
-alike b = triple (sampleRange b) (sampleRange b) (sampleRange b)
+abbrev eachRange : ℕ → Triple Range
+eachRange b = triple (sampleRange b) (sampleRange b) (sampleRange b)
 
-all-alike : (s : Settings) (b : ℕ) → s .depths ≡ each b → sampleRanges s ≡ alike b
-all-alike s b e = ap (λ (d : Depths). triple (sampleRange (d .c1)) (sampleRange (d .c2)) (sampleRange (d .c3))) e
+each-range : (s : Settings) (b : ℕ) → s .depths ≡ each b → sampleRanges s ≡ eachRange b
+each-range s b e = ap (λ (d : Depths). triple (sampleRange (d .c1)) (sampleRange (d .c2)) (sampleRange (d .c3))) e
 
-table : (b : ℕ) → 2 ≤ b → rows (alike b) ≡ depthTable b
+table : (b : ℕ) → 2 ≤ b → rows (eachRange b) ≡ depthTable b
 unfolding rangeTable
 table b h =
     let q : 1 ≤ 2 ^ (b - 2) = pow-pos (b - 2) in
@@ -60,7 +60,7 @@ table b h =
     (ap₂ _∷_ (row-is _ _ _ _ _ _ _ (omega arith)) (ap₂ _∷_ (row-is _ _ _ _ _ _ _ (omega arith)) refl)))
 
 pub ranges-are-table : RangesAreTable
-ranges-are-table s b h e = row-of s (ap rows (all-alike s b e) ∙ table b h)
+ranges-are-table s b h e = row-of s (ap rows (each-range s b e) ∙ table b h)
 
 pub ranges-are-rows : RangesAreRows
 unfolding threeRows
@@ -74,7 +74,7 @@ pub second-step-range : SecondStepRange
 second-step-range s b h e =
     let q : 1 ≤ 2 ^ (b - 1) = pow-pos (b - 1) in
     let n : 2 ^ b ≡ 2 ^ (b - 1) * 2 = pow-split b 1 (omega arith) in
-    ap (λ (r : Triple Range). ranges (take 2 YCoCg-R) r .c3) (all-alike s b e) ∙ range-is _ _ _ (omega arith)
+    ap (λ (r : Triple Range). ranges (take 2 YCoCg-R) r .c3) (each-range s b e) ∙ range-is _ _ _ (omega arith)
 
 -- ---- of samples
 pub steps-keep-ranges : StepsKeepRanges

@@ -8,12 +8,12 @@ use native.Mathlib.Omega.{arith}
 use lib.Dec.{T, leb, eqb, leb→le, le→leb, eqb→eq, eqb-refl}
 use lib.ListN.{length}
 use Rattle.integers.proofs.Booleans.{and-iff}
+use Rattle.stage.specs.Answers.{between}
 use Rattle.stage.specs.Settings.{Settings, depthAt, depthsAllowed, pixels, Allowed}
 use Rattle.stage.specs.Planes.{Plane, C1, C2, C3, Triple, Planes, get}
 use Rattle.stage.specs.Ranges.{widest}
 use Rattle.stage.specs.Transform.{lengths, allEqual, settingsTests, HasSize}
 use Rattle.stage.specs.Search.{countersNeeded, allAtLeast, scratchFits}
-use Rattle.stage.specs.Answers.{between}
 use Rattle.stage.proofs.Answers.{Holds, between-iff, sized-iff}
 use Rattle.stage.proofs.Triples.{each-test}
 

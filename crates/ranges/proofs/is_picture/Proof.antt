@@ -1,6 +1,6 @@
+use mathlib.Core.Path.{refl}
 use native.Mathlib.Omega.{arith}
 use Rattle.stage.specs.declared.Plane.the-variants.{C1, C2, C3}
-use mathlib.Core.Path.{refl}
 use Rattle.ranges.proofs.is_picture.Statement.{statement}
 use Rattle.ranges.proofs.is_picture.Tie as tie
 

@@ -1,7 +1,8 @@
+-- Each call's equation is put in, the last first.
 use borrow.Author.Needs.{needs}
 use mathlib.Core.Path.{refl}
-use Rattle.ranges.proofs.rdgdb.Statement.{statement}
-use Rattle.ranges.proofs.rdgdb.Tie as tie
+use Rattle.ranges.proofs.finished.rdgdb.Statement.{statement}
+use Rattle.ranges.proofs.finished.rdgdb.Tie as tie
 
 negate-requires : tie.Need-negate-requires
 negate-requires c κs = search needs

@@ -3,8 +3,8 @@ use mathlib.Core.Path.{refl}
 use native.Mathlib.Omega.{arith}
 use lib.Pow.{pow-pos, pow-mono}
 use Rattle.integers.proofs.Tests.{shifted}
-use Rattle.ranges.proofs.sample_range.Statement.{statement}
-use Rattle.ranges.proofs.sample_range.Tie as tie
+use Rattle.ranges.proofs.finished.sample_range.Statement.{statement}
+use Rattle.ranges.proofs.finished.sample_range.Tie as tie
 
 shl-t2 : tie.Need-shl-t2
 shl-t2 c = search needs

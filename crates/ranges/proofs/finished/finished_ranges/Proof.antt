@@ -7,8 +7,8 @@ use Rattle.stage.specs.Planes.{Triple}
 use Rattle.stage.specs.Steps.{steps}
 use Rattle.stage.specs.Ranges.{ranges, finishedRanges}
 use Rattle.ranges.specs.Read.{readRanges}
-use Rattle.ranges.proofs.finished_ranges.Statement.{statement}
-use Rattle.ranges.proofs.finished_ranges.Tie as tie
+use Rattle.ranges.proofs.finished.finished_ranges.Statement.{statement}
+use Rattle.ranges.proofs.finished.finished_ranges.Tie as tie
 
 sample-ranges-requires : tie.Need-sample-ranges-requires
 sample-ranges-requires c κs = search needs

@@ -1,8 +1,9 @@
+-- Each call's equation is put in, the last first; no sum of ends is large.
 use borrow.Author.Needs.{needs}
 use mathlib.Core.Path.{refl}
 use native.Mathlib.Omega.{arith}
-use Rattle.ranges.proofs.ldgeb.Statement.{statement}
-use Rattle.ranges.proofs.ldgeb.Tie as tie
+use Rattle.ranges.proofs.finished.ldgeb.Statement.{statement}
+use Rattle.ranges.proofs.finished.ldgeb.Tie as tie
 
 negate-requires : tie.Need-negate-requires
 negate-requires c κs = search needs

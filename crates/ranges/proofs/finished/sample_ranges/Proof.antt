@@ -1,8 +1,8 @@
 use mathlib.Core.Path.{refl}
 use native.Mathlib.Omega.{arith}
 use Rattle.stage.specs.declared.Plane.the-variants.{C1, C2, C3}
-use Rattle.ranges.proofs.sample_ranges.Statement.{statement}
-use Rattle.ranges.proofs.sample_ranges.Tie as tie
+use Rattle.ranges.proofs.finished.sample_ranges.Statement.{statement}
+use Rattle.ranges.proofs.finished.sample_ranges.Tie as tie
 
 sample-range-requires : tie.Need-sample-range-requires
 sample-range-requires c κs = let most = c .pre .depth-most in omega (arith, most C1, most C2, most C3)
