@@ -74,7 +74,7 @@ extern "C" {
    and 3, divisions round down, max is the greater of two; l = (M3 + 1)/2 and u = M3 + M1/2:
 
      RCT      plane 1  -M2                   to  M1
-              plane 2  -((2 * M2 + 3)/4)     to  M2 + (M1 + M3)/4
+              plane 2  -((M2 + 1)/2)         to  M2 + (M1 + M3)/4
               plane 3  -M2                   to  M3
      YCoCg-R  plane 1  -M3                   to  M1
               plane 2  -u                    to  M2 + l

@@ -1,19 +1,20 @@
 -- What holds once the tests of a call's settings and scratch are past.
-use mathlib.Core.Path.{_≡_, refl, sym, _∙_, subst}
-use mathlib.Core.Bool.{Bool}
+use mathlib.Core.Path.{_≡_, refl, sym, ap, _∙_, subst}
+use mathlib.Core.Bool.{Bool, cond, _&&_}
 use mathlib.Core.Logic.{_↔_}
 use Prim.Native.Nat.{ℕ, _+_, _*_, _≤_, _<_}
 use native.Mathlib.Nat.{mul-le-mul}
 use native.Mathlib.Omega.{arith}
 use lib.Dec.{T, leb, eqb, leb→le, le→leb, eqb→eq, eqb-refl}
 use lib.ListN.{length}
-use Rattle.integers.proofs.Booleans.{and-iff}
+use Rattle.integers.proofs.Booleans.{holds-true, and-iff}
 use Rattle.stage.specs.Answers.{between}
 use Rattle.stage.specs.Settings.{Settings, depthAt, depthsAllowed, pixels, Allowed}
 use Rattle.stage.specs.Planes.{Plane, C1, C2, C3, Triple, Planes, get}
 use Rattle.stage.specs.Ranges.{widest}
 use Rattle.stage.specs.Transform.{lengths, allEqual, settingsTests, HasSize}
 use Rattle.stage.specs.Search.{countersNeeded, allAtLeast, scratchFits}
+use Rattle.stage.specs.Theorems.{CountersTold}
 use Rattle.stage.proofs.Answers.{Holds, between-iff, sized-iff}
 use Rattle.stage.proofs.Triples.{each-test}
 
@@ -29,6 +30,13 @@ pub depths-iff : (s : Settings) → T (depthsAllowed (s .depths)) ↔ ((c : Plan
 depths-iff s =
     let e = each-test (λ (c : Plane). between 2 16 (depthAt s c)) in
     (λ t c. between-iff 2 16 (depthAt s c) .0 (e .0 t c), λ h. e .1 (λ c. between-iff 2 16 (depthAt s c) .1 (h c)))
+
+pub counters-told : CountersTold
+counters-told s a =
+    let fit = depths-iff s .1 (λ c. (a .depth-least c, a .depth-most c)) in
+    let known = le→leb (s .transform) 3 (a .transform-most) in
+    ap (λ (b : Bool). cond b (countersNeeded s) 0)
+    (holds-true (depthsAllowed (s .depths) && leb (s .transform) 3) (and-iff (depthsAllowed (s .depths)) (leb (s .transform) 3) .1 (fit, known)))
 
 -- The settings are allowed, the call's own test of the choices holds, and the planes, of lengths l, have the picture's size.
 pub record ValidSettings (s : Settings) (choices : Bool) (l : Triple ℕ) : Type 0 where

@@ -85,7 +85,7 @@ unfoldable pub threeRows : (M1 M2 M3 : ℕ) → List (Triple Range)
 threeRows M1 M2 M3 =
     let l = (M3 + 1) / 2 in
     let u = M3 + M1 / 2 in
-    rangeRow M2 M1 ((2 * M2 + 3) / 4) (M2 + (M1 + M3) / 4) M2 M3
+    rangeRow M2 M1 ((M2 + 1) / 2) (M2 + (M1 + M3) / 4) M2 M3
     ∷ rangeRow M3 M1 u (M2 + l) (l + (u + 1) / 2) (u + (M2 + l) / 2)
     ∷ rangeRow 0 M1 M2 (max M1 M2) M3 (max M2 M3)
     ∷ rangeRow (max M1 M2 / 2) (M1 + (M2 + 1) / 2) M2 (max M1 M2) (M1 + (M2 + 1) / 2) (M3 + max M1 M2 / 2)

@@ -9,14 +9,14 @@ use lib.IntN.{ℤ}
 use lib.ListN.{take, drop, set, getD}
 use Rattle.integers.specs.Parts.{In}
 use Rattle.integers.specs.Lists.{AllIn}
-use Rattle.stage.specs.Settings.{Settings, each, depthAt}
+use Rattle.stage.specs.Settings.{Settings, each, depthAt, Allowed}
 use Rattle.stage.specs.Planes.{Plane, Planes}
 use Rattle.stage.specs.Filter.{mean, filtered}
 use Rattle.stage.specs.Steps.{Setup, steps, places, run, undo, YCoCg-R}
 use Rattle.stage.specs.Ranges.{AllInside, maxSample, ranges, sampleRanges, finishedRanges, depthTable, threeRows, bounded, widest, InRanges, KeepsRanges}
 use Rattle.stage.specs.Transform.{choicesFit, setup, transformed, untransformed, Picture}
 use Rattle.stage.specs.Demand3.{GoesTo}
-use Rattle.stage.specs.Search.{countersNeeded, winner, searched}
+use Rattle.stage.specs.Search.{countersNeeded, countersCall, winner, searched}
 
 -- Running the steps and undoing them cancel, both ways, on any three planes of whole numbers.
 abbrev pub StepsCancel : Type 0
@@ -53,6 +53,10 @@ DeeperIsWider =
 -- Where no depth is above b, 14 × H − 7 counters are enough for every transform: as many as YCoCg-R needs where each plane has depth b.
 abbrev pub CountersEnough : Type 0
 CountersEnough = (s : Settings) (b : ℕ) → 2 ≤ b → ((c : Plane) → depthAt s c ≤ b) → countersNeeded s ≤ 14 * 2 ^ (b - 1) - 7
+
+-- The call `counters` tells as many counters as the estimate and the search ask for, at every size.
+abbrev pub CountersTold : Type 0
+CountersTold = (s : Settings) → Allowed s → countersCall (s .depths) (s .transform) ≡ countersNeeded s
 
 -- After YCoCg-R's second step plane 3 lies in −H to 3H − 2 where each plane has depth b.
 abbrev pub SecondStepRange : Type 0
