@@ -1,17 +1,19 @@
 -- No end of a range of finished planes is large.
 use mathlib.Core.Path.{_≡_, sym, subst}
-use Prim.Native.Nat.{_≤_}
+use Prim.Native.Nat.{ℕ, _≤_}
 use native.Mathlib.Omega.{arith}
 use Rattle.stage.specs.declared.Range.{Range}
 use Rattle.stage.specs.declared.Settings.{Settings}
 use Rattle.stage.specs.declared.Plane.{Plane}
 use Rattle.stage.specs.declared.Plane.the-variants.{C1, C2, C3}
-use Rattle.stage.specs.Settings.{depthAt}
+use Rattle.stage.specs.declared.Depths.{Depths}
+use Rattle.stage.specs.Settings.{settingsOf, depthAt, Allowed}
 use Rattle.stage.specs.Planes.{Triple}
 use Rattle.stage.specs.Ranges.{finishedRanges}
+use Rattle.stage.proofs.Triples.{each-plane}
 use Rattle.stage.proofs.Numbers.{finished-within}
 use Rattle.ranges.specs.declared.finished.Ranges.{Ranges}
-use Rattle.ranges.specs.Read.{readRanges}
+use Rattle.ranges.specs.Read.{readRanges, Shallow}
 
 -- every end is at most 2^19
 pub record Ends (r : Triple Range) : Type 0 where
@@ -22,9 +24,14 @@ pub record Ends (r : Triple Range) : Type 0 where
   pub b3 : r .c3 .below ≤ 524288
   pub a3 : r .c3 .above ≤ 524288
 
-pub finished-ends : (s : Settings) → ((c : Plane) → depthAt s c ≤ 16) → Ends (finishedRanges s)
-finished-ends s h = let i = finished-within s h in omega (arith, i C1, i C2, i C3)
+-- of the code's ranges, where no depth is above 16
+module _ {d : Depths} (h : Shallow d) (t : ℕ) where
+  pub each-depth : (c : Plane) → depthAt (settingsOf 1 1 d t) c ≤ 16
+  each-depth = each-plane (λ (c : Plane). depthAt (settingsOf 1 1 d t) c ≤ 16) (h .first) (h .second) (h .third)
 
--- of the code's ranges
-pub read-ends : (s : Settings) → ((c : Plane) → depthAt s c ≤ 16) → (r : Ranges) → readRanges r ≡ finishedRanges s → Ends (readRanges r)
-read-ends s h r e = subst Ends (sym e) (finished-ends s h)
+  pub read-ends : (r : Ranges) → readRanges r ≡ finishedRanges (settingsOf 1 1 d t) → Ends (readRanges r)
+  read-ends r e = let i = finished-within (settingsOf 1 1 d t) each-depth in subst Ends (sym e) (omega (arith, i C1, i C2, i C3))
+
+-- as it is of a call's settings
+pub shallow : {s : Settings} → Allowed s → Shallow (s .depths)
+shallow a = record { first = a .depth-most C1; second = a .depth-most C2; third = a .depth-most C3 }

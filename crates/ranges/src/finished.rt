@@ -3,15 +3,15 @@ ghost use mathlib.Core.Path.{_≡_};
 ghost use Prim.Native.Nat.{_≤_};
 ghost use Rattle.stage.specs.Steps.{RCT, YCoCg-R, RDgDb, LDgEb};
 ghost use Rattle.stage.specs.Ranges.{ranges, sampleRange, sampleRanges, finishedRanges};
-ghost use Rattle.stage.specs.Settings.{Allowed};
-ghost use Rattle.ranges.specs.Read.{readRanges, Small, AllSmall};
+ghost use Rattle.stage.specs.Settings.{settingsOf};
+ghost use Rattle.ranges.specs.Read.{readRanges, Small, AllSmall, Shallow};
 use crate::arithmetic::add;
 use crate::arithmetic::half;
 use crate::arithmetic::negate;
 use crate::arithmetic::quarter;
 use crate::arithmetic::subtract;
+use stage::Depths;
 use stage::Range;
-use stage::Settings;
 
 // of planes 1, 2 and 3
 pub(crate) struct Ranges {
@@ -92,13 +92,13 @@ fn sample_range(depth: u32) -> Range
     }
 }
 
-fn sample_ranges(settings: Settings) -> Ranges
-    requires { ⌜ Allowed settings ⌝ }
-    ensures { λ r. ⌜ (readRanges r ≡ sampleRanges settings) × AllSmall r ⌝ }
+fn sample_ranges(depths: Depths) -> Ranges
+    requires { ⌜ Shallow depths ⌝ }
+    ensures { λ r. ⌜ (readRanges r ≡ sampleRanges (settingsOf 1 1 depths 0)) × AllSmall r ⌝ }
 {
-    let c1 = sample_range(settings.depths.c1);
-    let c2 = sample_range(settings.depths.c2);
-    let c3 = sample_range(settings.depths.c3);
+    let c1 = sample_range(depths.c1);
+    let c2 = sample_range(depths.c2);
+    let c3 = sample_range(depths.c3);
     Ranges {
         c1: c1,
         c2: c2,
@@ -106,12 +106,11 @@ fn sample_ranges(settings: Settings) -> Ranges
     }
 }
 
-pub(crate) fn finished_ranges(settings: Settings) -> Ranges
-    requires { ⌜ Allowed settings ⌝ }
-    ensures { λ r. ⌜ readRanges r ≡ finishedRanges settings ⌝ }
+pub(crate) fn finished_ranges(depths: Depths, transform: u32) -> Ranges
+    requires { ⌜ Shallow depths × (transform ≤ 3) ⌝ }
+    ensures { λ r. ⌜ readRanges r ≡ finishedRanges (settingsOf 1 1 depths transform) ⌝ }
 {
-    let r = sample_ranges(settings);
-    let transform = settings.transform;
+    let r = sample_ranges(depths);
     match transform {
         0 => rct(r),
         1 => ycocg_r(r),

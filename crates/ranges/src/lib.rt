@@ -3,23 +3,25 @@ mod arithmetic;
 mod finished;
 
 ghost use mathlib.Core.Path.{_≡_};
+ghost use Prim.Native.Nat.{_≤_};
 ghost use Rattle.stage.specs.Planes.{triple};
 ghost use Rattle.stage.specs.Ranges.{finishedRanges, widest, withinRanges};
-ghost use Rattle.stage.specs.Settings.{Allowed};
+ghost use Rattle.stage.specs.Settings.{settingsOf, Allowed};
 ghost use Rattle.stage.specs.Search.{countersNeeded, countersCall};
 ghost use Rattle.stage.specs.Transform.{isPicture};
+ghost use Rattle.ranges.specs.Read.{Shallow};
 use arithmetic::larger;
 use finished::finished_ranges;
 use stage::Depths;
 use stage::Settings;
 use stage::are_depths;
 
-// D, the widest range (highest less lowest) of a transform's finished planes.
-pub fn widest(settings: Settings) -> u32
-    requires { ⌜ Allowed settings ⌝ }
-    ensures { λ r. ⌜ r ≡ widest settings ⌝ }
+// D, the widest range (highest less lowest) of a transform's finished planes, which a picture's size does not change.
+pub fn widest(depths: Depths, transform: u32) -> u32
+    requires { ⌜ Shallow depths × (transform ≤ 3) ⌝ }
+    ensures { λ r. ⌜ r ≡ widest (settingsOf 1 1 depths transform) ⌝ }
 {
-    let r = finished_ranges(settings);
+    let r = finished_ranges(depths, transform);
     larger(
         r.c1.below + r.c1.above,
         larger(r.c2.below + r.c2.above, r.c3.below + r.c3.above),
@@ -27,25 +29,19 @@ pub fn widest(settings: Settings) -> u32
 }
 
 // 2 × D + 1
-pub fn counters_needed(settings: Settings) -> u32
-    requires { ⌜ Allowed settings ⌝ }
-    ensures { λ r. ⌜ r ≡ countersNeeded settings ⌝ }
+pub fn counters_needed(depths: Depths, transform: u32) -> u32
+    requires { ⌜ Shallow depths × (transform ≤ 3) ⌝ }
+    ensures { λ r. ⌜ r ≡ countersNeeded (settingsOf 1 1 depths transform) ⌝ }
 {
-    2 * widest(settings) + 1
+    2 * widest(depths, transform) + 1
 }
 
-// How many counters the estimate and the search ask for; 0 where they would refuse a depth or the transform. The size makes no
-// difference.
+// How many counters the estimate and the search ask for; 0 where they would refuse a depth or the transform.
 pub fn counters(depths: Depths, transform: u32) -> u32
     ensures { λ r. ⌜ r ≡ countersCall depths transform ⌝ }
 {
     if are_depths(depths) & (transform <= 3) {
-        return counters_needed(Settings {
-            width: 1,
-            height: 1,
-            depths: depths,
-            transform: transform,
-        });
+        return counters_needed(depths, transform);
     }
     0
 }
@@ -64,7 +60,7 @@ pub fn in_finished_ranges(settings: Settings, c1: &[i32], c2: &[i32], c3: &[i32]
     requires { ⌜ Allowed settings ⌝ }
     ensures { λ r. ⌜ r ≡ withinRanges (finishedRanges settings) (triple (now (c1 .entry)) (now (c2 .entry)) (now (c3 .entry))) ⌝ }
 {
-    let r = finished_ranges(settings);
+    let r = finished_ranges(settings.depths, settings.transform);
     integers::all_within(c1, r.c1.below, r.c1.above)
         & (integers::all_within(c2, r.c2.below, r.c2.above)
             & integers::all_within(c3, r.c3.below, r.c3.above))

@@ -14,7 +14,7 @@ fn counters_fit(settings: Settings, counters: usize) -> bool
     requires { ⌜ Allowed settings ⌝ }
     ensures { λ r. ⌜ r ≡ leb (countersNeeded settings) counters ⌝ }
 {
-    counters_needed(settings) as usize <= counters
+    counters_needed(settings.depths, settings.transform) as usize <= counters
 }
 
 // Whether trial planes of m1, m2 and m3 numbers have room for n each.

@@ -76,7 +76,7 @@ fn part_estimate(
     requires { ⌜ PartReady settings (triple (now c1) (now c2) (now c3)) (now counters) (now table) ⌝ }
     ensures { λ r. ⌜ PartFound settings (readSet set) (triple (now (c1 .entry)) (now (c2 .entry)) (now (c3 .entry))) r (now (counters .exit)) ⌝ }
 {
-    let d = widest(settings);
+    let d = widest(settings.depths, settings.transform);
     let w = settings.width as usize;
     let e1 = chosen_estimate(c1, w, set.c1, d, counters, table);
     let e2 = chosen_estimate(c2, w, set.c2, d, counters, table);

@@ -1,39 +1,31 @@
 use borrow.Author.Needs.{needs}
 use mathlib.Core.Path.{_≡_, sym, ap, _∙_, subst}
 use mathlib.Core.Bool.{Bool, cond, _&&_}
-use Prim.Native.Nat.{ℕ, _≤_}
+use Prim.Native.Nat.{ℕ}
 use native.Mathlib.Omega.{arith}
-use lib.Dec.{T, leb, leb→le, lit≤}
+use lib.Dec.{T, leb, leb→le}
 use Rattle.integers.proofs.Booleans.{and-iff, true-holds}
 use Rattle.stage.specs.declared.Depths.{Depths}
-use Rattle.stage.specs.Settings.{settingsOf, depthsAllowed, Allowed}
+use Rattle.stage.specs.declared.Plane.the-variants.{C1, C2, C3}
+use Rattle.stage.specs.Settings.{settingsOf, depthsAllowed}
 use Rattle.stage.specs.Search.{countersNeeded, countersCall}
 use Rattle.stage.proofs.Validity.{depths-iff}
+use Rattle.ranges.specs.Read.{Shallow}
 use Rattle.ranges.proofs.counters.Statement.{statement}
 use Rattle.ranges.proofs.counters.Tie as tie
 
 are-depths-requires : tie.Need-are-depths-requires
 are-depths-requires c κs = search needs
 
--- the settings of one pixel are allowed where the tests hold
-one-pixel : (d : Depths) (t : ℕ) → T (depthsAllowed d) → t ≤ 3 → Allowed (settingsOf 1 1 d t)
-one-pixel d t h k =
-    let depths = depths-iff (settingsOf 1 1 d t) .0 h in
-    record {
-      width-least = lit≤ tt;
-      width-most = lit≤ tt;
-      height-least = lit≤ tt;
-      height-most = lit≤ tt;
-      depth-least = λ c. depths c .0;
-      depth-most = λ c. depths c .1;
-      transform-most = k;
-    }
+-- no depth is above 16 where the test holds
+tested : (d : Depths) → T (depthsAllowed d) → Shallow d
+tested d h = let depths = depths-iff (settingsOf 1 1 d 0) .0 h in record { first = depths C1 .1; second = depths C2 .1; third = depths C3 .1 }
 
 counters-needed-requires : tie.Need-counters-needed-requires
 counters-needed-requires c κs =
     let s = c .before .before .args in
     let k = and-iff (c .before .are-depths .result) _ .0 (true-holds (c .if1 .taken)) in
-    one-pixel (s .depths) (s .transform) (subst T (c .before .are-depths .ensures) (k .0)) (omega (arith, leb→le (s .transform) _ (k .1)))
+    (tested (s .depths) (subst T (c .before .are-depths .ensures) (k .0)), omega (arith, leb→le (s .transform) _ (k .1)))
 
 -- what the definition gives for what the code tests
 told : (d : Depths) (t : ℕ) {fit found : Bool} → fit ≡ depthsAllowed d → (fit && leb t 3) ≡ found

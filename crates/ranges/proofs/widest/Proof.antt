@@ -15,7 +15,7 @@ finished-ranges-requires c κs = search needs
 
 -- no sum is too large
 ends : (c : tie.After-finished-ranges) → Ends (readRanges (c .finished-ranges .result))
-ends c = let a = c .before in read-ends (a .args .settings) (a .pre .depth-most) (c .finished-ranges .result) (c .finished-ranges .ensures)
+ends c = let a = c .before in read-ends (a .pre .0) (a .args .transform) (c .finished-ranges .result) (c .finished-ranges .ensures)
 
 add-larger : tie.Need-add-larger
 add-larger c = let e = ends (c .before) in record { fits = omega arith }

@@ -3,6 +3,7 @@ use mathlib.Core.Path.{_≡_, sym, ap₂, _∙_}
 use Prim.Native.Nat.{ℕ}
 use native.Mathlib.Omega.{arith}
 use Rattle.stage.specs.declared.Range.{Range}
+use Rattle.stage.specs.Settings.{settingsOf}
 use Rattle.stage.specs.Planes.{Triple}
 use Rattle.stage.specs.Steps.{steps}
 use Rattle.stage.specs.Ranges.{ranges, finishedRanges}
@@ -26,8 +27,8 @@ ldgeb-requires : tie.Need-ldgeb-requires
 ldgeb-requires c κs = search needs
 
 -- from the ranges of samples, by the steps of transform t
-from-samples : (c : tie.After-sample-ranges) (t : ℕ) {q : Triple Range} → let s = c .before .args .settings in s .transform ≡ t
-    → q ≡ ranges (steps t) (readRanges (c .sample-ranges .result)) → q ≡ finishedRanges s
+from-samples : (c : tie.After-sample-ranges) (t : ℕ) {q : Triple Range} → let a = c .before .args in a .transform ≡ t
+    → q ≡ ranges (steps t) (readRanges (c .sample-ranges .result)) → q ≡ finishedRanges (settingsOf 1 1 (a .depths) (a .transform))
 from-samples c t e f = f ∙ ap₂ (λ (t : ℕ) (r : Triple Range). ranges (steps t) r) (sym e) (c .sample-ranges .ensures .0)
 
 returns : tie.Need-returns
@@ -43,7 +44,7 @@ returns-4 : tie.Need-returns-4
 returns-4 c =
     let a = c .before .before .before in
     let r = c .before .match .rest in
-    let last : a .args .settings .transform ≡ 3 = omega (arith, a .pre, r .0 .0 .1, r .0 .1, r .1) in
+    let last : a .args .transform ≡ 3 = omega (arith, a .pre, r .0 .0 .1, r .0 .1, r .1) in
     from-samples (c .before .before) 3 last (c .ldgeb .ensures)
 
 pub finished-ranges-spec : {M : Type 1} → statement M

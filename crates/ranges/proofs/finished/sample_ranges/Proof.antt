@@ -1,17 +1,16 @@
+use borrow.Author.Needs.{needs}
 use mathlib.Core.Path.{refl}
-use native.Mathlib.Omega.{arith}
-use Rattle.stage.specs.declared.Plane.the-variants.{C1, C2, C3}
 use Rattle.ranges.proofs.finished.sample_ranges.Statement.{statement}
 use Rattle.ranges.proofs.finished.sample_ranges.Tie as tie
 
 sample-range-requires : tie.Need-sample-range-requires
-sample-range-requires c κs = let most = c .pre .depth-most in omega (arith, most C1, most C2, most C3)
+sample-range-requires c κs = search needs
 
 sample-range-requires-2 : tie.Need-sample-range-requires-2
-sample-range-requires-2 c κs = let most = c .before .pre .depth-most in omega (arith, most C1, most C2, most C3)
+sample-range-requires-2 c κs = search needs
 
 sample-range-requires-3 : tie.Need-sample-range-requires-3
-sample-range-requires-3 c κs = let most = c .before .before .pre .depth-most in omega (arith, most C1, most C2, most C3)
+sample-range-requires-3 c κs = search needs
 
 returns : tie.Need-returns
 returns c =

@@ -3,12 +3,13 @@ use mathlib.Core.Path.{ap₂}
 use Prim.Native.Nat.{_+_}
 use native.Mathlib.Omega.{arith}
 use Rattle.stage.specs.declared.Plane.the-variants.{C1, C2, C3}
+use Rattle.ranges.proofs.Ends.{shallow}
 use Rattle.trials.specs.Trials.{partEstimate}
 use Rattle.trials.proofs.trial.part_estimate.Statement.{statement}
 use Rattle.trials.proofs.trial.part_estimate.Tie as tie
 
 widest-requires : tie.Need-widest-requires
-widest-requires c κs = c .before .pre .allowed
+widest-requires c κs = let a = c .before .pre .allowed in (shallow a, a .transform-most)
 
 cast-w : tie.Need-cast-w
 cast-w c = search needs
