@@ -76,6 +76,9 @@ fn part_estimate(
     requires { ⌜ PartReady settings (triple (now c1) (now c2) (now c3)) (now counters) (now table) ⌝ }
     ensures { λ r. ⌜ PartFound settings (readSet set) (triple (now (c1 .entry)) (now (c2 .entry)) (now (c3 .entry))) r (now (counters .exit)) ⌝ }
 {
+    if !(set.c1 | set.c2 | set.c3) {
+        return 0;
+    }
     let d = widest(settings.depths, settings.transform);
     let w = settings.width as usize;
     let e1 = chosen_estimate(c1, w, set.c1, d, counters, table);
