@@ -5,7 +5,6 @@ use Prim.Native.Nat.{ℕ, zero, suc, _+_, _*_, _/_, _%_, _^_, _≤_}
 use lib.IntN.{ℤ, pos}
 use lib.ListN.{length}
 use Rattle.integers.specs.Lists.{mapIndexed}
-use Rattle.stage.specs.declared.Depths.{Depths}
 
 -- the generator's next number, modulo 2^32
 abbrev pub next : ℕ → ℕ
@@ -28,12 +27,6 @@ generated levels x plane = mapIndexed (λ k z. sample levels (after (k + 1) x)) 
 pub record Levels (n : ℕ) : Type 0 where
   pub some : 1 ≤ n
   pub most : n ≤ 65536
-
--- depths of planes that can be filled
-pub record UpTo16 (d : Depths) : Type 0 where
-  pub first : d .c1 ≤ 16
-  pub second : d .c2 ≤ 16
-  pub third : d .c3 ≤ 16
 
 pub record LevelsOf (depth n : ℕ) : Type 0 where
   pub is : n ≡ 2 ^ depth

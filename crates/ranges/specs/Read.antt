@@ -1,18 +1,11 @@
 -- The code's ranges read as those of the definitions, and how wide they may be so that no sum of their ends wraps.
 use Prim.Native.Nat.{_≤_}
-use Rattle.stage.specs.declared.Depths.{Depths}
 use Rattle.stage.specs.declared.Range.{Range}
 use Rattle.stage.specs.Planes.{Triple, triple}
 use Rattle.ranges.specs.declared.finished.Ranges.{Ranges}
 
 abbrev pub readRanges : Ranges → Triple Range
 readRanges r = triple (r .c1) (r .c2) (r .c3)
-
--- no depth above 16
-pub record Shallow (d : Depths) : Type 0 where
-  pub first : d .c1 ≤ 16
-  pub second : d .c2 ≤ 16
-  pub third : d .c3 ≤ 16
 
 -- a range that may be added to another
 pub record Summable (r : Range) : Type 0 where

@@ -3,8 +3,8 @@ ghost use mathlib.Core.Path.{_≡_};
 ghost use Prim.Native.Nat.{_≤_};
 ghost use Rattle.stage.specs.Steps.{RCT, YCoCg-R, RDgDb, LDgEb};
 ghost use Rattle.stage.specs.Ranges.{ranges, sampleRange, sampleRanges, finishedRanges};
-ghost use Rattle.stage.specs.Settings.{settingsOf};
-ghost use Rattle.ranges.specs.Read.{readRanges, Small, AllSmall, Shallow};
+ghost use Rattle.stage.specs.Settings.{settingsOf, UpTo16};
+ghost use Rattle.ranges.specs.Read.{readRanges, Small, AllSmall};
 use crate::arithmetic::add;
 use crate::arithmetic::half;
 use crate::arithmetic::negate;
@@ -93,7 +93,7 @@ fn sample_range(depth: u32) -> Range
 }
 
 fn sample_ranges(depths: Depths) -> Ranges
-    requires { ⌜ Shallow depths ⌝ }
+    requires { ⌜ UpTo16 depths ⌝ }
     ensures { λ r. ⌜ (readRanges r ≡ sampleRanges (settingsOf 1 1 depths 0)) × AllSmall r ⌝ }
 {
     let c1 = sample_range(depths.c1);
@@ -107,7 +107,7 @@ fn sample_ranges(depths: Depths) -> Ranges
 }
 
 pub(crate) fn finished_ranges(depths: Depths, transform: u32) -> Ranges
-    requires { ⌜ Shallow depths × (transform ≤ 3) ⌝ }
+    requires { ⌜ UpTo16 depths × (transform ≤ 3) ⌝ }
     ensures { λ r. ⌜ readRanges r ≡ finishedRanges (settingsOf 1 1 depths transform) ⌝ }
 {
     let r = sample_ranges(depths);

@@ -6,10 +6,9 @@ ghost use mathlib.Core.Path.{_≡_};
 ghost use Prim.Native.Nat.{_≤_};
 ghost use Rattle.stage.specs.Planes.{triple};
 ghost use Rattle.stage.specs.Ranges.{finishedRanges, widest, withinRanges};
-ghost use Rattle.stage.specs.Settings.{settingsOf, Allowed};
+ghost use Rattle.stage.specs.Settings.{settingsOf, UpTo16, Allowed};
 ghost use Rattle.stage.specs.Search.{countersNeeded, countersCall};
 ghost use Rattle.stage.specs.Transform.{isPicture};
-ghost use Rattle.ranges.specs.Read.{Shallow};
 use arithmetic::larger;
 use finished::finished_ranges;
 use stage::Depths;
@@ -18,7 +17,7 @@ use stage::are_depths;
 
 // D, the widest range (highest less lowest) of a transform's finished planes, which a picture's size does not change.
 pub fn widest(depths: Depths, transform: u32) -> u32
-    requires { ⌜ Shallow depths × (transform ≤ 3) ⌝ }
+    requires { ⌜ UpTo16 depths × (transform ≤ 3) ⌝ }
     ensures { λ r. ⌜ r ≡ widest (settingsOf 1 1 depths transform) ⌝ }
 {
     let r = finished_ranges(depths, transform);
@@ -28,9 +27,9 @@ pub fn widest(depths: Depths, transform: u32) -> u32
     )
 }
 
-// 2 × D + 1
+// Residuals lie within −D to D.
 pub fn counters_needed(depths: Depths, transform: u32) -> u32
-    requires { ⌜ Shallow depths × (transform ≤ 3) ⌝ }
+    requires { ⌜ UpTo16 depths × (transform ≤ 3) ⌝ }
     ensures { λ r. ⌜ r ≡ countersNeeded (settingsOf 1 1 depths transform) ⌝ }
 {
     2 * widest(depths, transform) + 1

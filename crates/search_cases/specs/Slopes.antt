@@ -1,7 +1,7 @@
 -- What is asked of a slope, and of a case's numbers.
 use Prim.Native.Nat.{ℕ, _≤_}
 use Rattle.stage.specs.declared.Depths.{Depths}
-use Rattle.case_pictures.specs.Generated.{UpTo16}
+use Rattle.stage.specs.Settings.{UpTo16}
 use Rattle.search_cases.specs.declared.picture.Slope.{Slope}
 
 -- depths of up to 16 bits, some noise, and no sum that wraps

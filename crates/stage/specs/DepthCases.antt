@@ -30,7 +30,7 @@ depthRangeCases =
     ∷ (at far 1 gives ranges (rangeRow 511 65535 33278 259 16895 33407))
     ∷ (at far 2 gives ranges (rangeRow 0 65535 3 65535 511 511))
     ∷ (at far 3 gives ranges (rangeRow 32767 65537 3 65535 65537 33278))
-    -- the counters: D is the extent of plane 2, 2, 2, 2 and of plane 1, 1, 1, 3
+    -- the counters: D is the extent of plane 2, 2, 2, 2 and of plane 1, 1, 2, 3
     ∷ (count (countersCall mobile 0) gives count 221)
     ∷ (count (countersCall mobile 1) gives count 251)
     ∷ (count (countersCall mobile 2) gives count 253)

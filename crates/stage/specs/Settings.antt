@@ -33,6 +33,12 @@ pixels s = s .width * s .height
 abbrev pub depthsAllowed : Depths → Bool
 depthsAllowed d = between 2 16 (d .c1) && (between 2 16 (d .c2) && between 2 16 (d .c3))
 
+-- no depth above 16, as code that computes with depths asks it
+pub record UpTo16 (d : Depths) : Type 0 where
+  pub first : d .c1 ≤ 16
+  pub second : d .c2 ≤ 16
+  pub third : d .c3 ≤ 16
+
 -- "A picture has width and height 1 to 8,192", and transforms are numbered 0 to 3.
 pub record Allowed (s : Settings) : Type 0 where
   pub width-least : 1 ≤ s .width

@@ -1,6 +1,6 @@
 // Generated pictures of small sizes over all transforms, with depths of 2 to 16 beside each other and each filter at each place.
 ghost use Prim.Native.Nat.{_≤_};
-ghost use Rattle.case_pictures.specs.Generated.{UpTo16};
+ghost use Rattle.stage.specs.Settings.{UpTo16};
 use crate::text::print_answer;
 use crate::text::print_choices;
 use crate::text::print_planes;

@@ -7,10 +7,9 @@ use lib.Dec.{T, leb, leb→le}
 use Rattle.integers.proofs.Booleans.{and-iff, true-holds}
 use Rattle.stage.specs.declared.Depths.{Depths}
 use Rattle.stage.specs.declared.Plane.the-variants.{C1, C2, C3}
-use Rattle.stage.specs.Settings.{settingsOf, depthsAllowed}
+use Rattle.stage.specs.Settings.{settingsOf, depthsAllowed, UpTo16}
 use Rattle.stage.specs.Search.{countersNeeded, countersCall}
 use Rattle.stage.proofs.Validity.{depths-iff}
-use Rattle.ranges.specs.Read.{Shallow}
 use Rattle.ranges.proofs.counters.Statement.{statement}
 use Rattle.ranges.proofs.counters.Tie as tie
 
@@ -18,7 +17,7 @@ are-depths-requires : tie.Need-are-depths-requires
 are-depths-requires c κs = search needs
 
 -- no depth is above 16 where the test holds
-tested : (d : Depths) → T (depthsAllowed d) → Shallow d
+tested : (d : Depths) → T (depthsAllowed d) → UpTo16 d
 tested d h = let depths = depths-iff (settingsOf 1 1 d 0) .0 h in record { first = depths C1 .1; second = depths C2 .1; third = depths C3 .1 }
 
 counters-needed-requires : tie.Need-counters-needed-requires

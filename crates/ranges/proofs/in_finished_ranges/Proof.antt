@@ -6,15 +6,15 @@ use Rattle.stage.specs.Planes.{Triple, triple}
 use Rattle.stage.specs.declared.Range.{Range}
 use Rattle.stage.specs.Ranges.{withinRanges}
 use Rattle.ranges.specs.Read.{readRanges}
-use Rattle.ranges.proofs.Ends.{Ends, read-ends, shallow}
+use Rattle.ranges.proofs.Ends.{Ends, read-ends, up-to-16}
 use Rattle.ranges.proofs.in_finished_ranges.Statement.{statement}
 use Rattle.ranges.proofs.in_finished_ranges.Tie as tie
 
 finished-ranges-requires : tie.Need-finished-ranges-requires
-finished-ranges-requires c κs = (shallow (c .pre), c .pre .transform-most)
+finished-ranges-requires c κs = (up-to-16 (c .pre), c .pre .transform-most)
 
 ends : (c : tie.After-finished-ranges) → Ends (readRanges (c .finished-ranges .result))
-ends c = let a = c .before in read-ends (shallow (a .pre)) (a .args .settings .transform) (c .finished-ranges .result) (c .finished-ranges .ensures)
+ends c = let a = c .before in read-ends (up-to-16 (a .pre)) (a .args .settings .transform) (c .finished-ranges .result) (c .finished-ranges .ensures)
 
 all-within-requires : tie.Need-all-within-requires
 all-within-requires c κs = let e = ends c in omega arith

@@ -22,7 +22,8 @@ pub rulantip-estimate-spec : {M : Type 1} → statement M
 rulantip-estimate-spec =
     tie.close
     (tie.spec
-    settings-requires estimate-requires
+    settings-requires
+    estimate-requires
     returned-requires
     (λ c. search needs) (λ c. search needs) (λ c. search needs) (λ c. search needs)
     returns)

@@ -22,7 +22,8 @@ pub rulantip-search-spec : {M : Type 1} → statement M
 rulantip-search-spec =
     tie.close
     (tie.spec
-    settings-requires search-requires
+    settings-requires
+    search-requires
     returned-requires
     (λ c. search needs) (λ c. search needs) (λ c. search needs) (λ c. search needs) (λ c. search needs)
     returns)

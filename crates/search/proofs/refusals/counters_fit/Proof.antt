@@ -2,12 +2,12 @@ use borrow.Author.Needs.{needs}
 use mathlib.Core.Path.{ap}
 use Prim.Native.Nat.{ℕ}
 use lib.Dec.{leb}
-use Rattle.ranges.proofs.Ends.{shallow}
+use Rattle.ranges.proofs.Ends.{up-to-16}
 use Rattle.search.proofs.refusals.counters_fit.Statement.{statement}
 use Rattle.search.proofs.refusals.counters_fit.Tie as tie
 
 counters-needed-requires : tie.Need-counters-needed-requires
-counters-needed-requires c κs = (shallow (c .pre), c .pre .transform-most)
+counters-needed-requires c κs = (up-to-16 (c .pre), c .pre .transform-most)
 
 cast-result : tie.Need-cast-result
 cast-result c = search needs

@@ -1,5 +1,5 @@
 use borrow.Author.Needs.{needs}
-use mathlib.Core.Path.{_≡_, refl, ap₂, subst}
+use mathlib.Core.Path.{_≡_, refl, ap₂}
 use mathlib.Core.Bool.{Bool, true, false, not, _||_}
 use Prim.Native.Nat.{ℕ, _+_}
 use native.Mathlib.Omega.{arith}
@@ -8,12 +8,12 @@ use denote.Ref.{now}
 use Rattle.integers.proofs.Booleans.{true-holds}
 use Rattle.stage.specs.declared.Plane.the-variants.{C1, C2, C3}
 use Rattle.stage.specs.Planes.{Planes, triple}
-use Rattle.ranges.proofs.Ends.{shallow}
+use Rattle.ranges.proofs.Ends.{up-to-16}
 use Rattle.trials.specs.Trials.{partEstimate}
 use Rattle.trials.proofs.trial.part_estimate.Statement.{statement}
 use Rattle.trials.proofs.trial.part_estimate.Tie as tie
 
--- where the test of the set begins
+-- the call's start, seen from where no plane is in the set
 abbrev start : tie.Then1 → tie.Start
 start c = c .before .before .before .before
 
@@ -37,7 +37,7 @@ returns c =
     }
 
 widest-requires : tie.Need-widest-requires
-widest-requires c κs = let a = c .before .before .before .before .pre .allowed in (shallow a, a .transform-most)
+widest-requires c κs = let a = c .before .before .before .before .pre .allowed in (up-to-16 a, a .transform-most)
 
 cast-w : tie.Need-cast-w
 cast-w c = search needs
