@@ -14,6 +14,7 @@
 typedef struct {
     size_t width, height;
     uint32_t depth, transform;
+    int wrapped;   /* the wrapped form of the transform? */
 } setting;
 
 /* How a step changes a sample c by a filtered value f. The opposite of an even one is the next odd one. */
@@ -27,9 +28,9 @@ enum change {
 /* kernels.c */
 int are_samples(const int32_t *plane, size_t count, uint32_t most);
 int are_within(const int32_t *plane, size_t count, int32_t low, int32_t high);
-void lift(enum change change, uint32_t filter, int32_t *c, const int32_t *a, size_t width, size_t height);
-void lift_quarter(enum change change, const uint8_t filters[2], int32_t *c, const int32_t *a, const int32_t *b,
-                  size_t width, size_t height);
+void lift(const setting *s, enum change change, uint32_t filter, int32_t *c, const int32_t *a);
+void lift_quarter(const setting *s, enum change change, const uint8_t filters[2], int32_t *c, const int32_t *a,
+                  const int32_t *b);
 
 /* transforms.c; steps and planes count from 0 */
 uint32_t places_of(uint32_t transform);
@@ -54,8 +55,11 @@ estimated plain_search(const setting *s, uint32_t rounds, uint8_t *choices, int3
                        int32_t *const trial[3], uint32_t *counters);
 
 /* cases.c */
-enum kind { TRANSFORM, ESTIMATE, SEARCH, KINDS };
-enum call { FORWARD = 1, INVERSE = 2, ESTIMATES = 4, SEARCHES = 8 };   /* bits of a set of calls */
+enum kind { TRANSFORM, WRAPPED_TRANSFORM, ESTIMATE, SEARCH, KINDS };
+/* bits of a set of calls */
+enum call { FORWARD = 1, INVERSE = 2, FORWARD_WRAPPED = 4, INVERSE_WRAPPED = 8, ESTIMATES = 16, SEARCHES = 32 };
+#define PLAIN_FORMS (FORWARD | INVERSE)
+#define WRAPPED_FORMS (FORWARD_WRAPPED | INVERSE_WRAPPED)
 extern const char *const transform_names[TRANSFORMS];
 extern double worst_ratio[KINDS];   /* 0: none of the kind has run */
 void allocate(size_t widest_square);

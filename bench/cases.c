@@ -107,8 +107,8 @@ static void expect(int equal, const char *what, const setting *s)
 {
     if (equal)
         return;
-    fprintf(stderr, "%s differs: %s, %zu by %zu, depth %u\n", what, transform_names[s->transform], s->width, s->height,
-            s->depth);
+    fprintf(stderr, "%s differs: %s%s, %zu by %zu, depth %u\n", what, transform_names[s->transform],
+            s->wrapped ? " wrapped" : "", s->width, s->height, s->depth);
     exit(1);
 }
 
@@ -116,13 +116,20 @@ static void expect(int equal, const char *what, const setting *s)
 #define SETTING(s) (uint32_t)(s)->width, (uint32_t)(s)->height, DEPTHS(s), (s)->transform
 #define PLANES(s, p) p[0], (s)->width * (s)->height, p[1], (s)->width * (s)->height, p[2], (s)->width * (s)->height
 
-static void time_transform(int library, int back, const setting *s, const uint8_t *c, int32_t *const p[3], times *t)
+static uint32_t call_library(int back, const setting *s, const uint8_t *c, int32_t *const p[3])
 {
     size_t places = places_of(s->transform);
+    if (s->wrapped && back) return rulantip_inverse_wrapped(SETTING(s), c, places, PLANES(s, p));
+    if (s->wrapped) return rulantip_forward_wrapped(SETTING(s), c, places, PLANES(s, p));
+    if (back) return rulantip_inverse(SETTING(s), c, places, PLANES(s, p));
+    return rulantip_forward(SETTING(s), c, places, PLANES(s, p));
+}
+
+static void time_transform(int library, int back, const setting *s, const uint8_t *c, int32_t *const p[3], times *t)
+{
     uint32_t refusal;
     double since = now();
-    if (library && back) refusal = rulantip_inverse(SETTING(s), c, places, PLANES(s, p));
-    else if (library) refusal = rulantip_forward(SETTING(s), c, places, PLANES(s, p));
+    if (library) refusal = call_library(back, s, c, p);
     else if (back) refusal = plain_inverse(s, c, p);
     else refusal = plain_forward(s, c, p);
     keep(t, library ? LIBRARY : PLAIN, since);
@@ -188,10 +195,12 @@ static void print_case(enum kind kind, const char *call, const setting *s, const
     double ratio = middle_ratio(t, turns);
     if (ratio > worst_ratio[kind])
         worst_ratio[kind] = ratio;
-    printf("%-9s%-8s %5zu %5u %6s %11.3f %11.3f %6.2f %9.2f\n", call, transform_names[s->transform], s->width, s->depth,
-           filter, t->best[LIBRARY], t->best[PLAIN], ratio, t->best[LIBRARY] / t->best[COPY]);
+    printf("%-16s%-8s %5zu %5u %6s %11.3f %11.3f %6.2f %9.2f\n", call, transform_names[s->transform], s->width,
+           s->depth, filter, t->best[LIBRARY], t->best[PLAIN], ratio, t->best[LIBRARY] / t->best[COPY]);
     fflush(stdout);
 }
+
+static int is_transform(enum kind kind) { return kind == TRANSFORM || kind == WRAPPED_TRANSFORM; }
 
 static int enough(enum kind kind, uint32_t turn, double spent)
 {
@@ -210,13 +219,15 @@ void run_case(enum kind kind, const setting *s, uint32_t filter, uint32_t calls,
     if (kind != SEARCH)
         snprintf(text, sizeof text, "%u", filter);
     for (turn = 0; turns ? turn < turns : !enough(kind, turn, now() - since); turn++) {
-        if (kind == TRANSFORM) turn_transform(turn, s, choices, t);
+        if (is_transform(kind)) turn_transform(turn, s, choices, t);
         else turn_search(turn, kind == SEARCH ? ROUNDS : 0, s, choices, t);
-        for (uint32_t i = 0; i < (kind == TRANSFORM ? 2 : 1); i++)
+        for (uint32_t i = 0; i < (is_transform(kind) ? 2 : 1); i++)
             t[i].ratios[turn] = t[i].last[LIBRARY] / t[i].last[PLAIN];
     }
     if (calls & FORWARD) print_case(kind, "forward", s, text, &t[0], turn);
     if (calls & INVERSE) print_case(kind, "inverse", s, text, &t[1], turn);
+    if (calls & FORWARD_WRAPPED) print_case(kind, "forward_wrapped", s, text, &t[0], turn);
+    if (calls & INVERSE_WRAPPED) print_case(kind, "inverse_wrapped", s, text, &t[1], turn);
     if (calls & ESTIMATES) print_case(kind, "estimate", s, text, t, turn);
     if (calls & SEARCHES) print_case(kind, "search", s, text, t, turn);
 }

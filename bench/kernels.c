@@ -1,4 +1,4 @@
-/* Passes over planes. A row function is made for each change and each filter, so its divisors are constants. */
+/* Passes over planes. A row function is made for each form, change and filter, so its divisors are constants. */
 #include "bench.h"
 
 /* The union of what a test makes of each number, in LANES parts so that no operation waits for the one before it. */
@@ -56,11 +56,20 @@ INLINE int32_t changed(enum row_change change, int32_t c, int32_t f)
     }
 }
 
-/* The rounded mean; every sample lies within 2^19 of 0, so an offset makes the sum unsigned. */
-#define OFFSET (1 << 19)
-INLINE int32_t mean(int32_t sum, int32_t weights)
+/* What c becomes. Of a step's result a wrapped form keeps the bits of the mask, M; 4c + f and 4c - f are no results. */
+enum form { WHOLE, WRAPPED, FORMS };
+INLINE int32_t kept(enum form form, int32_t mask, enum row_change change, int32_t c, int32_t f)
 {
-    return (int32_t)((uint32_t)(sum + OFFSET * weights + weights / 2) / (uint32_t)weights) - OFFSET;
+    int whole = form == WHOLE || change == ROW_FOUR_PLUS || change == ROW_FOUR_MINUS;
+    return whole ? changed(change, c, f) : changed(change, c, f) & mask;
+}
+
+/* The rounded mean. In a wrapped form the sum is not negative; else every sample lies within 2^19 of 0, and an offset
+   makes the sum unsigned. */
+INLINE int32_t mean(enum form form, int32_t sum, int32_t weights)
+{
+    const int32_t offset = form == WHOLE ? 1 << 19 : 0;
+    return (int32_t)((uint32_t)(sum + offset * weights + weights / 2) / (uint32_t)weights) - offset;
 }
 
 /* The window's part in one column of 1 to 3 rows: the middle row m, then a, then b; m weighs `centre`. */
@@ -72,113 +81,125 @@ INLINE int32_t column(int32_t rows, int32_t centre, const int32_t *m, const int3
     return sum;
 }
 
-INLINE void filter_row(enum row_change change, int32_t k, int32_t rows, int32_t *restrict c, const int32_t *m,
-                       const int32_t *a, const int32_t *b, size_t width)
+INLINE void filter_row(enum form form, int32_t mask, enum row_change change, int32_t k, int32_t rows,
+                       int32_t *restrict c, const int32_t *m, const int32_t *a, const int32_t *b, size_t width)
 {
     size_t last = width - 1;
     if (last == 0) {
-        c[0] = changed(change, c[0], mean(column(rows, k, m, a, b, 0), rows - 1 + k));
+        c[0] = kept(form, mask, change, c[0], mean(form, column(rows, k, m, a, b, 0), rows - 1 + k));
         return;
     }
-    c[0] = changed(change, c[0], mean(column(rows, k, m, a, b, 0) + column(rows, 1, m, a, b, 1), 2 * rows - 1 + k));
+    int32_t left = column(rows, k, m, a, b, 0) + column(rows, 1, m, a, b, 1);
+    c[0] = kept(form, mask, change, c[0], mean(form, left, 2 * rows - 1 + k));
     for (size_t x = 1; x < last; x++) {
         int32_t sides = column(rows, 1, m, a, b, x - 1) + column(rows, 1, m, a, b, x + 1);
-        c[x] = changed(change, c[x], mean(sides + column(rows, k, m, a, b, x), 3 * rows - 1 + k));
+        c[x] = kept(form, mask, change, c[x], mean(form, sides + column(rows, k, m, a, b, x), 3 * rows - 1 + k));
     }
-    c[last] = changed(change, c[last],
-                      mean(column(rows, 1, m, a, b, last - 1) + column(rows, k, m, a, b, last), 2 * rows - 1 + k));
+    int32_t right = column(rows, 1, m, a, b, last - 1) + column(rows, k, m, a, b, last);
+    c[last] = kept(form, mask, change, c[last], mean(form, right, 2 * rows - 1 + k));
 }
 
-/* A row function gets the row to change, the filtered plane's row, and the rows above and below it or null. */
-#define ROW_PARAMETERS int32_t *restrict c, const int32_t *m, const int32_t *a, const int32_t *b, size_t width
+/* A row function gets the row to change, the filtered plane's row, the rows above and below it or null, and M. */
+#define ROW_PARAMETERS \
+    int32_t *restrict c, const int32_t *m, const int32_t *a, const int32_t *b, size_t width, int32_t mask
 typedef void row_function(ROW_PARAMETERS);
 
-#define ROW(change, filter, k) \
-    static void change##_##filter(ROW_PARAMETERS) \
+#define ROW(form, change, filter, k) \
+    static void form##_##change##_##filter(ROW_PARAMETERS) \
     { \
-        if (a && b) filter_row(change, k, 3, c, m, a, b, width); \
-        else if (a || b) filter_row(change, k, 2, c, m, a ? a : b, 0, width); \
-        else filter_row(change, k, 1, c, m, 0, 0, width); \
+        if (a && b) filter_row(form, mask, change, k, 3, c, m, a, b, width); \
+        else if (a || b) filter_row(form, mask, change, k, 2, c, m, a ? a : b, 0, width); \
+        else filter_row(form, mask, change, k, 1, c, m, 0, 0, width); \
     }
-#define SAMPLE(change, filter, value) \
-    static void change##_##filter(ROW_PARAMETERS) \
+#define SAMPLE(form, change, filter, value) \
+    static void form##_##change##_##filter(ROW_PARAMETERS) \
     { \
         (void)m, (void)a, (void)b; \
         for (size_t x = 0; x < width; x++) \
-            c[x] = changed(change, c[x], value); \
+            c[x] = kept(form, mask, change, c[x], value); \
     }
-#define ROWS(o) \
-    SAMPLE(o, 0, m[x]) ROW(o, 1, 1) ROW(o, 2, 2) ROW(o, 3, 4) ROW(o, 4, 8) ROW(o, 5, 16) ROW(o, 6, 32) \
-    ROW(o, 7, 64) ROW(o, 8, 128) ROW(o, 9, 256) ROW(o, 10, 512) ROW(o, 11, 1024)
-ROWS(ROW_PLUS)
-ROWS(ROW_MINUS)
-ROWS(ROW_PLUS_HALF)
-ROWS(ROW_MINUS_HALF)
-ROWS(ROW_PLUS_QUARTER)
-ROWS(ROW_MINUS_QUARTER)
-ROWS(ROW_NEGATE)
-ROWS(ROW_FOUR_PLUS)
-ROWS(ROW_FOUR_MINUS)
-ROWS(ROW_QUARTER_PLUS)
-ROWS(ROW_QUARTER_MINUS)
+#define ROWS(w, o) \
+    SAMPLE(w, o, 0, m[x]) ROW(w, o, 1, 1) ROW(w, o, 2, 2) ROW(w, o, 3, 4) ROW(w, o, 4, 8) ROW(w, o, 5, 16) \
+    ROW(w, o, 6, 32) ROW(w, o, 7, 64) ROW(w, o, 8, 128) ROW(w, o, 9, 256) ROW(w, o, 10, 512) ROW(w, o, 11, 1024)
+#define EACH_CHANGE(make, w) \
+    make(w, ROW_PLUS) make(w, ROW_MINUS) make(w, ROW_PLUS_HALF) make(w, ROW_MINUS_HALF) make(w, ROW_PLUS_QUARTER) \
+    make(w, ROW_MINUS_QUARTER) make(w, ROW_NEGATE) make(w, ROW_FOUR_PLUS) make(w, ROW_FOUR_MINUS) \
+    make(w, ROW_QUARTER_PLUS) make(w, ROW_QUARTER_MINUS)
+EACH_CHANGE(ROWS, WHOLE)
+EACH_CHANGE(ROWS, WRAPPED)
 
 /* Of filters 0 to 11: no row is made with the null filter. */
-#define LISTED(o) [o] = {o##_0, o##_1, o##_2, o##_3, o##_4, o##_5, o##_6, o##_7, o##_8, o##_9, o##_10, o##_11}
-static row_function *const row_functions[ROW_CHANGES][NULL_FILTER] = {
-    LISTED(ROW_PLUS), LISTED(ROW_MINUS), LISTED(ROW_PLUS_HALF), LISTED(ROW_MINUS_HALF), LISTED(ROW_PLUS_QUARTER),
-    LISTED(ROW_MINUS_QUARTER), LISTED(ROW_NEGATE), LISTED(ROW_FOUR_PLUS), LISTED(ROW_FOUR_MINUS),
-    LISTED(ROW_QUARTER_PLUS), LISTED(ROW_QUARTER_MINUS)
+#define LISTED(w, o) \
+    [o] = {w##_##o##_0, w##_##o##_1, w##_##o##_2, w##_##o##_3, w##_##o##_4, w##_##o##_5, w##_##o##_6, w##_##o##_7, \
+           w##_##o##_8, w##_##o##_9, w##_##o##_10, w##_##o##_11},
+static row_function *const row_functions[FORMS][ROW_CHANGES][NULL_FILTER] = {
+    [WHOLE] = {EACH_CHANGE(LISTED, WHOLE)}, [WRAPPED] = {EACH_CHANGE(LISTED, WRAPPED)}
 };
 
-INLINE void change_row(enum row_change change, uint32_t filter, int32_t *c, const int32_t *a, size_t width,
-                       size_t height, size_t y)
+INLINE enum form form_of(const setting *s) { return s->wrapped ? WRAPPED : WHOLE; }
+INLINE int32_t mask_of(const setting *s) { return (1 << s->depth) - 1; }
+
+INLINE void change_row(const setting *s, enum row_change change, uint32_t filter, int32_t *c, const int32_t *a,
+                       size_t y)
 {
-    const int32_t *m = a + y * width;
-    row_functions[change][filter](c + y * width, m, y > 0 ? m - width : 0, y + 1 < height ? m + width : 0, width);
+    size_t width = s->width;
+    const int32_t *m = a + y * width, *above = y > 0 ? m - width : 0, *below = y + 1 < s->height ? m + width : 0;
+    row_functions[form_of(s)][change][filter](c + y * width, m, above, below, width, mask_of(s));
 }
 
-static void lift_rows(enum row_change rows, uint32_t filter, int32_t *c, const int32_t *a, size_t width, size_t height)
+static void lift_rows(const setting *s, enum row_change rows, uint32_t filter, int32_t *c, const int32_t *a)
 {
     if (filter == 0)   /* no window: the plane is one long row */
-        row_functions[rows][0](c, a, 0, 0, width * height);
+        row_functions[form_of(s)][rows][0](c, a, 0, 0, s->width * s->height, mask_of(s));
     else
-        for (size_t y = 0; y < height; y++)
-            change_row(rows, filter, c, a, width, height, y);
+        for (size_t y = 0; y < s->height; y++)
+            change_row(s, rows, filter, c, a, y);
 }
 
-void lift(enum change change, uint32_t filter, int32_t *c, const int32_t *a, size_t width, size_t height)
+void lift(const setting *s, enum change change, uint32_t filter, int32_t *c, const int32_t *a)
 {
     static const enum row_change row_changes[] = {
         [PLUS] = ROW_PLUS, [MINUS] = ROW_MINUS, [PLUS_HALF] = ROW_PLUS_HALF, [MINUS_HALF] = ROW_MINUS_HALF,
         [NEGATE] = ROW_NEGATE
     };
     if (filter != NULL_FILTER)   /* a step whose places are all null is skipped */
-        lift_rows(row_changes[change], filter, c, a, width, height);
+        lift_rows(s, row_changes[change], filter, c, a);
 }
 
-INLINE void plain_quarter(int32_t sign, int32_t *restrict c, const int32_t *a, const int32_t *b, size_t count)
+INLINE void quarter_of_samples(enum form form, int32_t mask, enum row_change change, int32_t *restrict c,
+                               const int32_t *a, const int32_t *b, size_t count)
 {
     for (size_t i = 0; i < count; i++)
-        c[i] += sign * ((a[i] + b[i]) >> 2);
+        c[i] = kept(form, mask, change, c[i], a[i] + b[i]);
 }
 
-void lift_quarter(enum change change, const uint8_t filters[2], int32_t *c, const int32_t *a, const int32_t *b,
-                  size_t width, size_t height)
+/* The quarter step with two filters 0 is one pass. */
+static void lift_quarter_of_samples(const setting *s, int plus, int32_t *c, const int32_t *a, const int32_t *b)
+{
+    size_t count = s->width * s->height;
+    int32_t mask = mask_of(s);
+    if (s->wrapped && plus) quarter_of_samples(WRAPPED, mask, ROW_PLUS_QUARTER, c, a, b, count);
+    else if (s->wrapped) quarter_of_samples(WRAPPED, mask, ROW_MINUS_QUARTER, c, a, b, count);
+    else if (plus) quarter_of_samples(WHOLE, mask, ROW_PLUS_QUARTER, c, a, b, count);
+    else quarter_of_samples(WHOLE, mask, ROW_MINUS_QUARTER, c, a, b, count);
+}
+
+void lift_quarter(const setting *s, enum change change, const uint8_t filters[2], int32_t *c, const int32_t *a,
+                  const int32_t *b)
 {
     int plus = change == PLUS_QUARTER;
     if (filters[0] == NULL_FILTER || filters[1] == NULL_FILTER) {
         int other = filters[0] == NULL_FILTER;
         if (filters[other] != NULL_FILTER)
-            lift_rows(plus ? ROW_PLUS_QUARTER : ROW_MINUS_QUARTER, filters[other], c, other ? b : a, width, height);
+            lift_rows(s, plus ? ROW_PLUS_QUARTER : ROW_MINUS_QUARTER, filters[other], c, other ? b : a);
         return;
     }
     if (filters[0] == 0 && filters[1] == 0) {
-        if (plus) plain_quarter(1, c, a, b, width * height);
-        else plain_quarter(-1, c, a, b, width * height);
+        lift_quarter_of_samples(s, plus, c, a, b);
         return;
     }
-    for (size_t y = 0; y < height; y++) {
-        change_row(plus ? ROW_FOUR_PLUS : ROW_FOUR_MINUS, filters[0], c, a, width, height, y);
-        change_row(plus ? ROW_QUARTER_PLUS : ROW_QUARTER_MINUS, filters[1], c, b, width, height, y);
+    for (size_t y = 0; y < s->height; y++) {
+        change_row(s, plus ? ROW_FOUR_PLUS : ROW_FOUR_MINUS, filters[0], c, a, y);
+        change_row(s, plus ? ROW_QUARTER_PLUS : ROW_QUARTER_MINUS, filters[1], c, b, y);
     }
 }

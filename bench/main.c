@@ -13,7 +13,7 @@ typedef struct {
 static void usage(void)
 {
     fputs("options, with their defaults; lists have commas:\n"
-          "  -c forward,inverse,estimate,search\n"
+          "  -c forward,inverse,forward_wrapped,inverse_wrapped,estimate,search\n"
           "  -t 0,1,2,3       transforms\n"
           "  -f 0,1,5,11,12   filters, each at all places\n"
           "  -d 8             depths, 2 to 16\n"
@@ -42,12 +42,14 @@ static numbers read_numbers(const char *text, uint32_t least, uint32_t most)
 
 static uint32_t read_calls(char *text)
 {
-    static const char *const names[] = {"forward", "inverse", "estimate", "search"};
-    uint32_t calls = 0, i;
+    static const char *const names[] = {
+        "forward", "inverse", "forward_wrapped", "inverse_wrapped", "estimate", "search"
+    };
+    uint32_t calls = 0, count = sizeof names / sizeof *names, i;
     for (char *word = strtok(text, ","); word; word = strtok(0, ",")) {
-        for (i = 0; i < 4 && strcmp(word, names[i]); i++)
+        for (i = 0; i < count && strcmp(word, names[i]); i++)
             ;
-        if (i == 4)
+        if (i == count)
             usage();
         calls |= 1u << i;
     }
@@ -56,9 +58,14 @@ static uint32_t read_calls(char *text)
 
 static void run_setting(const setting *s, const numbers *filters, uint32_t calls, uint32_t turns)
 {
-    for (uint32_t i = 0; i < filters->count; i++)
-        if (calls & (FORWARD | INVERSE))
-            run_case(TRANSFORM, s, filters->list[i], calls & (FORWARD | INVERSE), turns);
+    setting wrapped = *s;
+    wrapped.wrapped = 1;
+    for (uint32_t i = 0; i < filters->count; i++) {
+        if (calls & PLAIN_FORMS)
+            run_case(TRANSFORM, s, filters->list[i], calls & PLAIN_FORMS, turns);
+        if (calls & WRAPPED_FORMS)
+            run_case(WRAPPED_TRANSFORM, &wrapped, filters->list[i], calls & WRAPPED_FORMS, turns);
+    }
     for (uint32_t i = 0; i < filters->count; i++)
         if (calls & ESTIMATES)
             run_case(ESTIMATE, s, filters->list[i], ESTIMATES, turns);
@@ -68,7 +75,7 @@ static void run_setting(const setting *s, const numbers *filters, uint32_t calls
 
 static void print_worst(void)
 {
-    static const char *const names[KINDS] = {"transforms", "estimates", "searches"};
+    static const char *const names[KINDS] = {"transforms", "wrapped", "estimates", "searches"};
     fputs("worst ratio:", stdout);
     for (uint32_t i = 0; i < KINDS; i++)
         if (worst_ratio[i] > 0) printf(" %s %.2f", names[i], worst_ratio[i]);
@@ -79,7 +86,7 @@ static void print_worst(void)
 int main(int argc, char **argv)
 {
     numbers t = {{0, 1, 2, 3}, 4}, f = {{0, 1, 5, 11, 12}, 5}, d = {{8}, 1}, s = {{512, 2048}, 2};
-    uint32_t calls = FORWARD | INVERSE | ESTIMATES | SEARCHES, turns = 0, most = 0;
+    uint32_t calls = PLAIN_FORMS | WRAPPED_FORMS | ESTIMATES | SEARCHES, turns = 0, most = 0;
     int all = 0, o;
     while ((o = getopt(argc, argv, "c:t:f:d:s:r:ah")) != -1)
         switch (o) {
@@ -100,16 +107,16 @@ int main(int argc, char **argv)
         most = s.list[i] > most ? s.list[i] : most;
     allocate(most);
     fill_logarithms();
-    printf("%-17s %5s %5s %6s %11s %11s %6s %9s\n", "call", "size", "depth", "filter", "library ms", "C ms", "ratio",
+    printf("%-24s %5s %5s %6s %11s %11s %6s %9s\n", "call", "size", "depth", "filter", "library ms", "C ms", "ratio",
            "to memcpy");
     for (uint32_t i = 0; i < s.count; i++)
         for (uint32_t j = 0; j < d.count; j++)
             for (uint32_t k = 0; k < t.count; k++) {
-                setting one = {s.list[i], s.list[i], d.list[j], t.list[k]};
+                setting one = {s.list[i], s.list[i], d.list[j], t.list[k], 0};
                 int transforms_only = all && one.width != 512 && one.width != 2048;
                 if (k == 0)
                     draw_picture(&one);
-                run_setting(&one, &f, transforms_only ? calls & (FORWARD | INVERSE) : calls, turns);
+                run_setting(&one, &f, transforms_only ? calls & (PLAIN_FORMS | WRAPPED_FORMS) : calls, turns);
             }
     print_worst();
     return 0;

@@ -52,9 +52,9 @@ static void change_plane(const setting *s, const step *e, int undo, const uint8_
     int32_t *c = planes[e->plane];
     const int32_t *a = planes[e->source];
     if (e->change == PLUS_QUARTER)
-        lift_quarter(change, choices + e->place, c, a, planes[e->second], s->width, s->height);
+        lift_quarter(s, change, choices + e->place, c, a, planes[e->second]);
     else
-        lift(change, choices[e->place], c, a, s->width, s->height);
+        lift(s, change, choices[e->place], c, a);
 }
 
 void run_steps(const setting *s, const uint8_t *choices, int32_t *const planes[3], uint32_t from, uint32_t to)
@@ -85,8 +85,19 @@ uint32_t plain_forward(const setting *s, const uint8_t *choices, int32_t *const 
     return 0;
 }
 
+/* Every three planes of 0 to M come from a picture. */
+static uint32_t wrapped_inverse(const setting *s, const uint8_t *choices, int32_t *const planes[3])
+{
+    if (!is_picture(s, planes))
+        return 11;
+    undo_steps(s, choices, planes, 0, steps_of(s->transform));
+    return 0;
+}
+
 uint32_t plain_inverse(const setting *s, const uint8_t *choices, int32_t *const planes[3])
 {
+    if (s->wrapped)
+        return wrapped_inverse(s, choices, planes);
     for (uint32_t i = 0; i < 3; i++) {
         int32_t low, high;
         range_of(s->depth, s->transform, i, &low, &high);

@@ -22,6 +22,16 @@
    the plane of such a step of RDgDb and of LDgEb's first. Planes that it made so come back as the same
    picture or are refused with 12.)
 
+   WRAPPED FORMS of the four transforms need no more bits than the picture has: what a picture of depth
+   8 goes to still fits bytes. All planes have one depth b. The result of every step is kept modulo
+   2^b, as 0 to M, and filters, halves and quarters use the number kept; RCT's C1d + C3d is divided
+   before anything is reduced. Null steps are skipped here too. At depth 8 and with filters 0, RDgDb's
+   wrapped form gives 10, 66, 140 for the pixel 10, 200, 60, and its plain form 10, -190, 140.
+   Every three planes of 0 to M are what exactly one picture goes to in a wrapped form. These forms
+   have two calls, rulantip_forward_wrapped and rulantip_inverse_wrapped; the estimate and the search
+   are about the plain forms. Nothing in the planes tells their form: bring them back by the inverse of
+   the same form, with the same choices. The other inverse may refuse them or leave another picture.
+
    WHAT THE CALLER OWES, and no call can test:
    - Each pointer points to as many elements as the length after it says. For length 0 any pointer
      will do, also a null pointer.
@@ -65,13 +75,16 @@ extern "C" {
 #define RULANTIP_REFUSED_PLANE 8         /* a plane's length is not width * height */
 #define RULANTIP_REFUSED_SCRATCH 9       /* a trial plane below width * height numbers, or too few counters */
 #define RULANTIP_REFUSED_ROUNDS 10       /* rounds outside 1 to 4 */
+#define RULANTIP_REFUSED_UNEQUAL 16      /* a wrapped form, and the three depths differ */
 
 /* Refusals that whoever made the samples can cause. */
-#define RULANTIP_REFUSED_SAMPLE 11       /* a sample of the picture outside 0 to its plane's M */
+#define RULANTIP_REFUSED_SAMPLE 11       /* a sample of the picture outside 0 to its plane's M; also a number
+                                            of the planes that rulantip_inverse_wrapped is lent */
 #define RULANTIP_REFUSED_UNREACHED 12    /* planes that no picture of these depths goes to */
 
-/* RANGES of finished planes, under any choices. M1, M2 and M3 are the highest samples of planes 1, 2
-   and 3, divisions round down, max is the greater of two; l = (M3 + 1)/2 and u = M3 + M1/2:
+/* RANGES of finished planes, under any choices; in a wrapped form they are 0 to M. M1, M2 and M3 are
+   the highest samples of planes 1, 2 and 3, divisions round down, max is the greater of two;
+   l = (M3 + 1)/2 and u = M3 + M1/2:
 
      RCT      plane 1  -M2                   to  M1
               plane 2  -((M2 + 1)/2)         to  M2 + (M1 + M3)/4
@@ -138,6 +151,47 @@ uint32_t rulantip_forward(
    then as on entry. */
 uint32_t rulantip_inverse(
     uint32_t width,         /* as in rulantip_forward, to the end */
+    uint32_t height,
+    uint32_t depth1,
+    uint32_t depth2,
+    uint32_t depth3,
+    uint32_t transform,
+    const uint8_t *choices,
+    size_t choices_len,
+    int32_t *c1,            /* finished plane 1, R after success */
+    size_t c1_len,
+    int32_t *c2,            /* finished plane 2, G after success */
+    size_t c2_len,
+    int32_t *c3,            /* finished plane 3, B after success */
+    size_t c3_len
+);
+
+/* Runs the steps of the transform's wrapped form on a picture, in place.
+   Tests, in this order: 2, 5, 16, 6, 7, 8, 11. After success the planes hold what the picture goes to
+   in that form, every number 0 to M. */
+uint32_t rulantip_forward_wrapped(
+    uint32_t width,         /* as in rulantip_forward, to the end */
+    uint32_t height,
+    uint32_t depth1,        /* b of all planes; the three must be equal */
+    uint32_t depth2,
+    uint32_t depth3,
+    uint32_t transform,
+    const uint8_t *choices,
+    size_t choices_len,
+    int32_t *c1,
+    size_t c1_len,
+    int32_t *c2,
+    size_t c2_len,
+    int32_t *c3,
+    size_t c3_len
+);
+
+/* Undoes the steps of the transform's wrapped form in the opposite order, in place, with the choices
+   of rulantip_forward_wrapped. Tests, in this order: 2, 5, 16, 6, 7, 8, 11; never 12, since there is
+   a picture for all planes of 0 to M. After success the planes hold the one picture that goes to the
+   planes lent in that form. */
+uint32_t rulantip_inverse_wrapped(
+    uint32_t width,         /* as in rulantip_forward_wrapped, to the end */
     uint32_t height,
     uint32_t depth1,
     uint32_t depth2,

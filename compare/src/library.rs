@@ -22,11 +22,12 @@ pub enum Refusal {
     Rounds = 10,
     Sample = 11,
     Unreached = 12,
+    Unequal = 16,
 }
 
 impl Refusal {
     /// Every refusal, in the order of the numbers.
-    pub const ALL: [Refusal; 12] = [
+    pub const ALL: [Refusal; 13] = [
         Refusal::Header,
         Refusal::Size,
         Refusal::Maxval,
@@ -39,6 +40,7 @@ impl Refusal {
         Refusal::Rounds,
         Refusal::Sample,
         Refusal::Unreached,
+        Refusal::Unequal,
     ];
 
     pub fn number(self) -> u32 {
@@ -61,6 +63,7 @@ impl fmt::Display for Refusal {
             Refusal::Rounds => "the rounds are outside 1 to 4",
             Refusal::Sample => "a sample is outside its plane's depth",
             Refusal::Unreached => "no picture goes to these planes",
+            Refusal::Unequal => "the three depths differ",
         })
     }
 }
@@ -123,6 +126,16 @@ pub fn forward(settings: Settings, choices: &[u8], planes: [&mut [i32]; 3]) -> R
 /// Changes planes to the picture that goes to them, in place.
 pub fn inverse(settings: Settings, choices: &[u8], planes: [&mut [i32]; 3]) -> Result<(), Refusal> {
     in_place(c::rulantip_inverse, settings, choices, planes)
+}
+
+/// Changes a picture to what it goes to in the wrapped form of the transform, in place. The depths must be equal.
+pub fn forward_wrapped(settings: Settings, choices: &[u8], planes: [&mut [i32]; 3]) -> Result<(), Refusal> {
+    in_place(c::rulantip_forward_wrapped, settings, choices, planes)
+}
+
+/// Changes planes to the picture that goes to them in the wrapped form, in place. The depths must be equal.
+pub fn inverse_wrapped(settings: Settings, choices: &[u8], planes: [&mut [i32]; 3]) -> Result<(), Refusal> {
+    in_place(c::rulantip_inverse_wrapped, settings, choices, planes)
 }
 
 /// The estimate of a picture under the choices.
@@ -198,11 +211,11 @@ pub fn pixmap_planes(file: &[u8], planes: [&mut [i32]; 3]) -> Result<(), Refusal
 }
 
 fn refusal(number: u32) -> Result<(), Refusal> {
-    match number {
-        0 => Ok(()),
-        1..=12 => Err(Refusal::ALL[number as usize - 1]),
-        _ => panic!("{number} is no refusal"),
+    if number == 0 {
+        return Ok(());
     }
+    let refusal = Refusal::ALL.into_iter().find(|refusal| refusal.number() == number);
+    Err(refusal.unwrap_or_else(|| panic!("{number} is no refusal")))
 }
 
 fn in_place(call: c::InPlace, settings: Settings, choices: &[u8], planes: [&mut [i32]; 3]) -> Result<(), Refusal> {
@@ -239,7 +252,7 @@ pub mod c {
         pub depth: u32,
     }
 
-    /// The type of both calls that change planes in place.
+    /// The type of the four calls that change planes in place.
     #[rustfmt::skip]
     pub type InPlace = unsafe extern "C" fn(
         u32, u32, u32, u32, u32, u32,
@@ -257,6 +270,18 @@ pub mod c {
         ) -> u32;
 
         pub fn rulantip_inverse(
+            width: u32, height: u32, depth1: u32, depth2: u32, depth3: u32, transform: u32,
+            choices: *const u8, choices_len: usize,
+            c1: *mut i32, c1_len: usize, c2: *mut i32, c2_len: usize, c3: *mut i32, c3_len: usize,
+        ) -> u32;
+
+        pub fn rulantip_forward_wrapped(
+            width: u32, height: u32, depth1: u32, depth2: u32, depth3: u32, transform: u32,
+            choices: *const u8, choices_len: usize,
+            c1: *mut i32, c1_len: usize, c2: *mut i32, c2_len: usize, c3: *mut i32, c3_len: usize,
+        ) -> u32;
+
+        pub fn rulantip_inverse_wrapped(
             width: u32, height: u32, depth1: u32, depth2: u32, depth3: u32, transform: u32,
             choices: *const u8, choices_len: usize,
             c1: *mut i32, c1_len: usize, c2: *mut i32, c2_len: usize, c3: *mut i32, c3_len: usize,

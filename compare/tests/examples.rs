@@ -2,8 +2,10 @@
 //! reference. The header is also compiled as C++, and its macros and its table of ranges are tried.
 
 use compare::generator;
-use compare::reference::{all_depths, counters, forward, pixmap_header, pixmap_planes, places, ranges, search};
-use compare::reference::{Scratch, Settings, NAMES};
+use compare::reference::{
+    all_depths, counters, forward, forward_wrapped, pixmap_header, pixmap_planes, places, ranges,
+};
+use compare::reference::{search, Scratch, Settings, NAMES};
 use std::fmt::Write;
 use std::fs;
 use std::path::{Path, PathBuf};
@@ -37,6 +39,17 @@ fn build(example: &str) -> PathBuf {
     out.join("roundtrip")
 }
 
+/// What an example prints of finished planes that then come back.
+fn held(planes: [Vec<i32>; 3]) -> String {
+    let mut text = String::new();
+    for (plane, number) in planes.iter().zip(1..) {
+        let (low, high) = (plane.iter().min().unwrap(), plane.iter().max().unwrap());
+        writeln!(text, "plane {number} holds {low} to {high}").unwrap();
+    }
+    writeln!(text, "all {} samples came back", 3 * planes[0].len()).unwrap();
+    text
+}
+
 /// What an example prints for a file with no fault.
 fn expected(file: &[u8]) -> String {
     let header = pixmap_header(file).unwrap();
@@ -59,12 +72,9 @@ fn expected(file: &[u8]) -> String {
     }
     let (_, settings, filters) = best.unwrap();
     writeln!(text, "best {}", NAMES[settings.transform as usize]).unwrap();
-    for (plane, number) in forward(settings, &filters, planes).unwrap().iter().zip(1..) {
-        let (low, high) = (plane.iter().min().unwrap(), plane.iter().max().unwrap());
-        writeln!(text, "plane {number} holds {low} to {high}").unwrap();
-    }
-    writeln!(text, "all {} samples came back", 3 * samples).unwrap();
-    text
+    text += &held(forward(settings, &filters, planes).unwrap());
+    writeln!(text, "wrapped, in {} bytes", 3 * samples).unwrap();
+    text + &held(forward_wrapped(settings, &filters, planes).unwrap())
 }
 
 fn files() -> Vec<Vec<u8>> {

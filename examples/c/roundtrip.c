@@ -1,4 +1,5 @@
-/* Reads a P6 file, finds the best transform and filters, transforms the picture and brings it back. */
+/* Reads a P6 file, finds the best transform and filters, transforms the picture and brings it back; then once more in
+   the wrapped form, whose planes fit bytes. */
 
 #include "rulantip.h"
 
@@ -8,7 +9,7 @@
 static const char *const names[4] = {"RCT", "YCoCg-R", "RDgDb", "LDgEb"};
 static const size_t places[4] = {4, 4, 2, 3};
 
-static const char *const causes[13] = {
+static const char *const causes[17] = {
     "success",
     "the header does not have the form of P6",
     "width or height is outside 1 to 8,192",
@@ -22,6 +23,8 @@ static const char *const causes[13] = {
     "the rounds are outside 1 to 4",
     "a sample is outside its plane's depth",
     "no picture goes to these planes",
+    NULL, NULL, NULL,
+    "the three depths differ",
 };
 
 static void stop(const char *what, const char *why)
@@ -32,7 +35,9 @@ static void stop(const char *what, const char *why)
 
 static void stop_refused(const char *what, uint32_t refusal)
 {
-    fprintf(stderr, "%s: refused %u, %s\n", what, (unsigned)refusal, refusal <= 12 ? causes[refusal] : "no cause known");
+    const char *cause = refusal <= 16 ? causes[refusal] : NULL;
+
+    fprintf(stderr, "%s: refused %u, %s\n", what, (unsigned)refusal, cause != NULL ? cause : "no cause known");
     exit(1);
 }
 
@@ -100,6 +105,58 @@ static void print_range(int number, const int32_t *plane, size_t samples)
     printf("plane %d holds %ld to %ld\n", number, (long)low, (long)high);
 }
 
+static void print_ranges(const int32_t *c1, const int32_t *c2, const int32_t *c3, size_t samples)
+{
+    print_range(1, c1, samples);
+    print_range(2, c2, samples);
+    print_range(3, c3, samples);
+}
+
+/* Stops unless the planes hold the raster of the file. */
+static void compare(const char *name, const uint8_t *raster, const int32_t *c1, const int32_t *c2, const int32_t *c3,
+                    size_t samples)
+{
+    size_t i;
+
+    for (i = 0; i < samples; i++)
+        if (c1[i] != raster[3 * i] || c2[i] != raster[3 * i + 1] || c3[i] != raster[3 * i + 2])
+            stop(name, "the picture did not come back");
+    printf("all %lu samples came back\n", (unsigned long)(3 * samples));
+}
+
+/* Transforms the picture in the wrapped form and brings it back from bytes: every number needs only the bits of a sample,
+   which are at most 8 in the file. */
+static void through_bytes(const rulantip_pixmap *picture, uint32_t transform, const uint8_t *choices,
+                          int32_t *c1, int32_t *c2, int32_t *c3, size_t samples)
+{
+    uint32_t width = picture->width, height = picture->height, depth = picture->depth, refusal;
+    uint8_t *bytes = memory(3 * samples, 1);
+    size_t i;
+
+    refusal = rulantip_forward_wrapped(width, height, depth, depth, depth, transform, choices, places[transform],
+                                       c1, samples, c2, samples, c3, samples);
+    if (refusal != 0)
+        stop_refused("forward, wrapped", refusal);
+    printf("wrapped, in %lu bytes\n", (unsigned long)(3 * samples));
+    print_ranges(c1, c2, c3, samples);
+    for (i = 0; i < samples; i++) {
+        bytes[i] = (uint8_t)c1[i];
+        bytes[samples + i] = (uint8_t)c2[i];
+        bytes[2 * samples + i] = (uint8_t)c3[i];
+    }
+
+    for (i = 0; i < samples; i++) {
+        c1[i] = bytes[i];
+        c2[i] = bytes[samples + i];
+        c3[i] = bytes[2 * samples + i];
+    }
+    refusal = rulantip_inverse_wrapped(width, height, depth, depth, depth, transform, choices, places[transform],
+                                       c1, samples, c2, samples, c3, samples);
+    if (refusal != 0)
+        stop_refused("inverse, wrapped", refusal);
+    free(bytes);
+}
+
 int main(int argc, char **argv)
 {
     size_t length, samples, counters, i;
@@ -159,18 +216,16 @@ int main(int argc, char **argv)
                                c1, samples, c2, samples, c3, samples);
     if (refusal != 0)
         stop_refused("forward", refusal);
-    print_range(1, c1, samples);
-    print_range(2, c2, samples);
-    print_range(3, c3, samples);
+    print_ranges(c1, c2, c3, samples);
 
     refusal = rulantip_inverse(picture.width, picture.height, depth, depth, depth, best, choices[best], places[best],
                                c1, samples, c2, samples, c3, samples);
     if (refusal != 0)
         stop_refused("inverse", refusal);
-    for (i = 0; i < samples; i++)
-        if (c1[i] != raster[3 * i] || c2[i] != raster[3 * i + 1] || c3[i] != raster[3 * i + 2])
-            stop(argv[1], "the picture did not come back");
-    printf("all %lu samples came back\n", (unsigned long)(3 * samples));
+    compare(argv[1], raster, c1, c2, c3, samples);
+
+    through_bytes(&picture, best, choices[best], c1, c2, c3, samples);
+    compare(argv[1], raster, c1, c2, c3, samples);
 
     free(file);
     free(c1);

@@ -1,9 +1,11 @@
-//! Reads a P6 file, finds the best transform and filters, transforms the picture and brings it back.
+//! Reads a P6 file, finds the best transform and filters, transforms the picture and brings it back; then once more in the
+//! wrapped form, whose planes fit bytes.
 
 #[path = "../../compare/src/library.rs"]
 mod library;
 
-use library::{counters, forward, inverse, pixmap, pixmap_planes, places, search, Refusal, Scratch, Settings};
+use library::{counters, forward, forward_wrapped, inverse, inverse_wrapped, pixmap, pixmap_planes, places, search};
+use library::{Refusal, Scratch, Settings};
 use std::process::exit;
 
 const NAMES: [&str; 4] = ["RCT", "YCoCg-R", "RDgDb", "LDgEb"];
@@ -15,6 +17,40 @@ fn stop(what: &str, why: &str) -> ! {
 
 fn stop_refused(what: &str, refusal: Refusal) -> ! {
     stop(what, &format!("refused {}, {refusal}", refusal.number()))
+}
+
+/// The lowest and the highest number of each plane.
+fn print_ranges(planes: &[Vec<i32>; 3]) {
+    for (plane, number) in planes.iter().zip(1..) {
+        let (low, high) = (plane.iter().min().unwrap(), plane.iter().max().unwrap());
+        println!("plane {number} holds {low} to {high}");
+    }
+}
+
+/// Stops unless the planes hold the raster of the file.
+fn compare(name: &str, raster: &[u8], planes: &[Vec<i32>; 3]) {
+    for (i, pixel) in raster.chunks_exact(3).enumerate() {
+        if planes.each_ref().map(|plane| plane[i]) != [pixel[0], pixel[1], pixel[2]].map(i32::from) {
+            stop(name, "the picture did not come back");
+        }
+    }
+    println!("all {} samples came back", raster.len());
+}
+
+/// Transforms the picture in the wrapped form and brings it back from bytes: every number needs only the bits of a sample,
+/// which are at most 8 in the file.
+fn through_bytes(settings: Settings, choices: &[u8], planes: &mut [Vec<i32>; 3]) {
+    forward_wrapped(settings, choices, planes.each_mut().map(Vec::as_mut_slice))
+        .unwrap_or_else(|refusal| stop_refused("forward, wrapped", refusal));
+    let bytes: Vec<u8> = planes.iter().flatten().map(|&number| number as u8).collect();
+    println!("wrapped, in {} bytes", bytes.len());
+    print_ranges(planes);
+
+    for (number, byte) in planes.iter_mut().flatten().zip(bytes) {
+        *number = i32::from(byte);
+    }
+    inverse_wrapped(settings, choices, planes.each_mut().map(Vec::as_mut_slice))
+        .unwrap_or_else(|refusal| stop_refused("inverse, wrapped", refusal));
 }
 
 fn main() {
@@ -55,17 +91,12 @@ fn main() {
 
     forward(settings, &choices, planes.each_mut().map(Vec::as_mut_slice))
         .unwrap_or_else(|refusal| stop_refused("forward", refusal));
-    for (plane, number) in planes.iter().zip(1..) {
-        let (low, high) = (plane.iter().min().unwrap(), plane.iter().max().unwrap());
-        println!("plane {number} holds {low} to {high}");
-    }
+    print_ranges(&planes);
 
     inverse(settings, &choices, planes.each_mut().map(Vec::as_mut_slice))
         .unwrap_or_else(|refusal| stop_refused("inverse", refusal));
-    for (i, pixel) in picture.raster.chunks_exact(3).enumerate() {
-        if planes.each_ref().map(|plane| plane[i]) != [pixel[0], pixel[1], pixel[2]].map(i32::from) {
-            stop(name, "the picture did not come back");
-        }
-    }
-    println!("all {} samples came back", 3 * samples);
+    compare(name, picture.raster, &planes);
+
+    through_bytes(settings, &choices, &mut planes);
+    compare(name, picture.raster, &planes);
 }

@@ -1,7 +1,7 @@
 //! The calls with their refusals, in the order in which they are tested.
 
 use super::{are_depths, counters, greatest, places, plane_estimate, run, undo};
-use super::{Plane, Planes, RefusalNumber, TRANSFORMS};
+use super::{Form, Plane, Planes, RefusalNumber, TRANSFORMS};
 
 /// What every call on planes is told.
 #[derive(Clone, Copy, Debug, PartialEq, Eq)]
@@ -34,6 +34,12 @@ pub struct Found {
     pub estimated: Estimated,
 }
 
+/// The planes after a call, or why it refuses.
+pub type Answer = Result<[Vec<i32>; 3], RefusalNumber>;
+
+/// `run` or `undo`.
+type Steps = fn(Form, u32, usize, usize, &[u8], Planes) -> Planes;
+
 impl Settings {
     fn samples(&self) -> usize {
         self.width as usize * self.height as usize
@@ -41,12 +47,33 @@ impl Settings {
 
     /// Refusals 2, 5, 6 and the part of 7 on the number of choices.
     fn test(&self, choices: usize) -> Result<(), RefusalNumber> {
+        self.test_size_and_depths()?;
+        self.test_transform(choices)
+    }
+
+    /// Refusals 2 and 5.
+    fn test_size_and_depths(&self) -> Result<(), RefusalNumber> {
         if !(1..=8192).contains(&self.width) || !(1..=8192).contains(&self.height) {
             return Err(2);
         }
         if !are_depths(self.depths) {
             return Err(5);
         }
+        Ok(())
+    }
+
+    /// Refusal 16, or the wrapped form at the one depth.
+    fn wrapped(&self) -> Result<Form, RefusalNumber> {
+        let [depth, ..] = self.depths;
+        if self.depths == [depth; 3] {
+            Ok(Form::Wrapped(depth))
+        } else {
+            Err(16)
+        }
+    }
+
+    /// Refusal 6 and the part of 7 on the number of choices.
+    fn test_transform(&self, choices: usize) -> Result<(), RefusalNumber> {
         if self.transform >= TRANSFORMS {
             return Err(6);
         }
@@ -101,13 +128,13 @@ impl Settings {
         }
     }
 
-    fn run(&self, filters: &[u8], planes: &Planes) -> Planes {
-        run(self.transform, self.width as usize, self.height as usize, filters, planes.clone())
+    fn lift(&self, steps: Steps, form: Form, filters: &[u8], planes: Planes) -> Planes {
+        steps(form, self.transform, self.width as usize, self.height as usize, filters, planes)
     }
 
     /// The sum of the estimates of the three finished planes.
     fn estimate(&self, filters: &[u8], picture: &Planes) -> Estimated {
-        let finished = self.run(filters, picture);
+        let finished = self.lift(run, Form::Plain, filters, picture.clone());
         let each = finished.each_ref().map(|plane| plane_estimate(plane, self.width as usize));
         Estimated { estimate: each.iter().map(|(estimate, _)| estimate).sum(), samples: each[0].1 }
     }
@@ -123,26 +150,46 @@ fn lent(planes: Planes) -> [Vec<i32>; 3] {
 }
 
 /// The planes that the picture goes to. Refusals 2, 5, 6, 7, 8, 11.
-pub fn forward(settings: Settings, choices: &[u8], planes: [&[i32]; 3]) -> Result<[Vec<i32>; 3], RefusalNumber> {
+pub fn forward(settings: Settings, choices: &[u8], planes: [&[i32]; 3]) -> Answer {
     settings.test(choices.len())?;
     settings.test_choices(choices)?;
     settings.test_planes(&planes)?;
     let picture = settings.picture(planes)?;
-    Ok(lent(settings.run(choices, &picture)))
+    Ok(lent(settings.lift(run, Form::Plain, choices, picture)))
 }
 
 /// The picture that goes to the planes. Refusals 2, 5, 6, 7, 8, 12.
-pub fn inverse(settings: Settings, choices: &[u8], planes: [&[i32]; 3]) -> Result<[Vec<i32>; 3], RefusalNumber> {
+pub fn inverse(settings: Settings, choices: &[u8], planes: [&[i32]; 3]) -> Answer {
     settings.test(choices.len())?;
     settings.test_choices(choices)?;
     settings.test_planes(&planes)?;
-    let (width, height) = (settings.width as usize, settings.height as usize);
-    let before = undo(settings.transform, width, height, choices, whole(planes));
+    let before = settings.lift(undo, Form::Plain, choices, whole(planes));
     if settings.is_picture(&before) {
         Ok(lent(before))
     } else {
         Err(12)
     }
+}
+
+/// The planes that the picture goes to in the wrapped form. Refusals 2, 5, 16, 6, 7, 8, 11.
+pub fn forward_wrapped(settings: Settings, choices: &[u8], planes: [&[i32]; 3]) -> Answer {
+    in_wrapped_form(run, settings, choices, planes)
+}
+
+/// The picture that goes to the planes in the wrapped form. Refusals 2, 5, 16, 6, 7, 8, 11.
+pub fn inverse_wrapped(settings: Settings, choices: &[u8], planes: [&[i32]; 3]) -> Answer {
+    in_wrapped_form(undo, settings, choices, planes)
+}
+
+/// "16 if the three depths differ, after 5; 11 for a sample outside 0 to M, either way."
+fn in_wrapped_form(steps: Steps, settings: Settings, choices: &[u8], planes: [&[i32]; 3]) -> Answer {
+    settings.test_size_and_depths()?;
+    let form = settings.wrapped()?;
+    settings.test_transform(choices.len())?;
+    settings.test_choices(choices)?;
+    settings.test_planes(&planes)?;
+    let before = settings.picture(planes)?;
+    Ok(lent(settings.lift(steps, form, choices, before)))
 }
 
 /// The estimate under the choices. Refusals 2, 5, 6, 7, 8, 9, 11.

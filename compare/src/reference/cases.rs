@@ -6,7 +6,7 @@ const PIXEL: [i64; 3] = [10, 200, 60];
 const DEPTH_8: Settings = Settings { width: 1, height: 1, depths: [8; 3], transform: 0 };
 
 fn pixel(transform: u32, filters: &[u8]) -> [i64; 3] {
-    run(transform, 1, 1, filters, PIXEL.map(|sample| vec![sample])).map(|plane| plane[0])
+    run(Form::Plain, transform, 1, 1, filters, PIXEL.map(|sample| vec![sample])).map(|plane| plane[0])
 }
 
 #[test]
@@ -33,7 +33,7 @@ fn null_steps() {
 
 #[test]
 fn two_pixels() {
-    let planes = run(2, 2, 1, &[1, 1], [vec![10, 20], vec![100, 101], vec![7, 9]]);
+    let planes = run(Form::Plain, 2, 2, 1, &[1, 1], [vec![10, 20], vec![100, 101], vec![7, 9]]);
     assert_eq!(planes, [vec![10, 20], vec![-85, -86], vec![94, 92]]);
 }
 
@@ -61,7 +61,7 @@ fn largest_window() {
     for (number, range) in planes.into_iter().zip(ranges([16; 3], 1)) {
         assert!(range.contains(number));
     }
-    let [_, _, plane] = undo(1, 3, 3, &[0; 4], planes.map(|number| vec![number; 9]));
+    let [_, _, plane] = undo(Form::Plain, 1, 3, 3, &[0; 4], planes.map(|number| vec![number; 9]));
     assert_eq!(plane, [229_372; 9]);
     let (sum, weights) = window(&plane, 3, 3, 11, 1, 1);
     assert_eq!(2 * sum + weights, 473_424_840);

@@ -90,7 +90,7 @@ fn counters_needed() {
 }
 
 /// One pixel forward, or back, under RDgDb with filters 0.
-type Call = fn(Settings, &[u8], [&[i32]; 3]) -> Result<[Vec<i32>; 3], RefusalNumber>;
+type Call = fn(Settings, &[u8], [&[i32]; 3]) -> Answer;
 
 fn pixel(call: Call, depths: [u32; 3], samples: [i32; 3]) -> Result<[i32; 3], RefusalNumber> {
     let settings = Settings { width: 1, height: 1, depths, transform: 2 };
@@ -128,7 +128,7 @@ fn planes_of_a_picture_past_its_depths() {
 }
 
 /// Every picture of `samples` pixels.
-fn pictures(depths: [u32; 3], samples: u32) -> impl Iterator<Item = Planes> {
+pub fn pictures(depths: [u32; 3], samples: u32) -> impl Iterator<Item = Planes> {
     let bits: u32 = depths.iter().map(|depth| depth * samples).sum();
     (0..1i64 << bits).map(move |code| {
         let mut rest = code;
@@ -145,16 +145,16 @@ fn pictures(depths: [u32; 3], samples: u32) -> impl Iterator<Item = Planes> {
 fn come_back(depths: [u32; 3], samples: u32, transform: u32, filters: &[u8]) {
     let width = samples as usize;
     for picture in pictures(depths, samples) {
-        let finished = run(transform, width, 1, filters, picture.clone());
+        let finished = run(Form::Plain, transform, width, 1, filters, picture.clone());
         for (plane, range) in finished.iter().zip(ranges(depths, transform)) {
             assert!(plane.iter().all(|&number| range.contains(number)), "depths {depths:?} filters {filters:?}");
         }
-        assert_eq!(undo(transform, width, 1, filters, finished), picture);
+        assert_eq!(undo(Form::Plain, transform, width, 1, filters, finished), picture);
     }
 }
 
 /// Null at every set of the transform's places, `filter` at the others.
-fn null_sets(transform: u32, filter: u8) -> impl Iterator<Item = Vec<u8>> {
+pub fn null_sets(transform: u32, filter: u8) -> impl Iterator<Item = Vec<u8>> {
     let places = places(transform);
     (0..1 << places).map(move |set| (0..places).map(|place| if set >> place & 1 == 1 { 12 } else { filter }).collect())
 }

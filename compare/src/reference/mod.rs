@@ -16,18 +16,21 @@ mod transform;
 mod cases;
 #[cfg(test)]
 mod depth_cases;
+#[cfg(test)]
+mod wrapped_cases;
 
-pub use calls::{estimate, forward, inverse, search, Estimated, Found, Scratch, Settings};
+pub use calls::{estimate, forward, forward_wrapped, inverse, inverse_wrapped, search};
+pub use calls::{Answer, Estimated, Found, Scratch, Settings};
 pub use entropy::{counted_indices, logarithm, med, plane_estimate, residual};
 pub use filter::{filtered, filtered_at, window};
 pub use pixmap::{pixmap_header, pixmap_planes, Header};
 pub use ranges::{all_depths, are_depths, counters, greatest, ranges, Interval};
 pub use report::{report, NAMES};
-pub use transform::{places, run, undo, TRANSFORMS};
+pub use transform::{places, run, undo, Form, TRANSFORMS};
 
 /// A plane or three of them, in whole numbers.
 pub type Plane = Vec<i64>;
 pub type Planes = [Plane; 3];
 
-/// The number that tells why a call refuses, 1 to 12.
+/// The number that tells why a call refuses, 1 to 12 or 16.
 pub type RefusalNumber = u32;

@@ -13,8 +13,28 @@ pub fn places(transform: u32) -> usize {
 /// The filter that gives 0.
 const NULL: u8 = 12;
 
-/// One filter for each place, from place 1 on, and the size of the planes.
+/// The forms of each transform, by how the result of a step is kept.
+#[derive(Clone, Copy, Debug, PartialEq, Eq)]
+pub enum Form {
+    /// As it is.
+    Plain,
+    /// "Modulo 2^b, as 0 to M", with this b. Only the whole result is reduced: "RCT's sum of two filtered values is
+    /// divided before".
+    Wrapped(u32),
+}
+
+impl Form {
+    fn kept(self, result: i64) -> i64 {
+        match self {
+            Form::Plain => result,
+            Form::Wrapped(depth) => result.rem_euclid(1 << depth),
+        }
+    }
+}
+
+/// The form, one filter for each place, from place 1 on, and the size of the planes.
 struct Lifting<'a> {
+    form: Form,
     width: usize,
     height: usize,
     filters: &'a [u8],
@@ -26,7 +46,8 @@ impl Lifting<'_> {
     }
 
     /// A step: each sample of `plane` becomes the result for it and the sum of the filtered values of `terms`, which are
-    /// planes with their places. "A step whose places are all null leaves its plane unchanged, both ways."
+    /// planes with their places, as the form keeps it. "A step whose places are all null leaves its plane unchanged, both
+    /// ways."
     fn step(&self, plane: &mut Plane, terms: &[(&Plane, usize)], result: impl Fn(i64, i64) -> i64) {
         if terms.iter().all(|&(_, place)| self.filter(place) == NULL) {
             return;
@@ -34,7 +55,7 @@ impl Lifting<'_> {
         let filtered = |&(term, place): &(&Plane, usize)| filtered(term, self.width, self.height, self.filter(place));
         let terms: Vec<Plane> = terms.iter().map(filtered).collect();
         for (i, sample) in plane.iter_mut().enumerate() {
-            *sample = result(*sample, terms.iter().map(|term| term[i]).sum());
+            *sample = self.form.kept(result(*sample, terms.iter().map(|term| term[i]).sum()));
         }
     }
 }
@@ -48,9 +69,9 @@ fn quarter(n: i64) -> i64 {
 }
 
 /// Every step of the transform in order; `filters` has one filter for each place.
-pub fn run(transform: u32, width: usize, height: usize, filters: &[u8], planes: Planes) -> Planes {
+pub fn run(form: Form, transform: u32, width: usize, height: usize, filters: &[u8], planes: Planes) -> Planes {
     let [mut c1, mut c2, mut c3] = planes;
-    let lifting = Lifting { width, height, filters };
+    let lifting = Lifting { form, width, height, filters };
     match transform {
         0 => {
             lifting.step(&mut c1, &[(&c2, 1)], |c, d| c - d);
@@ -78,9 +99,9 @@ pub fn run(transform: u32, width: usize, height: usize, filters: &[u8], planes: 
 }
 
 /// The steps undone, the last one first, with the same filters.
-pub fn undo(transform: u32, width: usize, height: usize, filters: &[u8], planes: Planes) -> Planes {
+pub fn undo(form: Form, transform: u32, width: usize, height: usize, filters: &[u8], planes: Planes) -> Planes {
     let [mut c1, mut c2, mut c3] = planes;
-    let lifting = Lifting { width, height, filters };
+    let lifting = Lifting { form, width, height, filters };
     match transform {
         0 => {
             lifting.step(&mut c2, &[(&c1, 3), (&c3, 4)], |c, d| c - quarter(d));

@@ -68,6 +68,9 @@ fn calls(random: &mut Random, at_end: bool, origin: &str) {
     let mut picture = planes(&case.planes, at_end);
     library::forward(settings, choices.slice(), picture.each_mut().map(Edge::slice)).expect(origin);
     library::inverse(settings, choices.slice(), picture.each_mut().map(Edge::slice)).expect(origin);
+    let one_depth = Settings { depths: case.wrapped().settings.depths, ..settings };
+    library::forward_wrapped(one_depth, choices.slice(), picture.each_mut().map(Edge::slice)).expect(origin);
+    library::inverse_wrapped(one_depth, choices.slice(), picture.each_mut().map(Edge::slice)).expect(origin);
     for (plane, entry) in picture.iter_mut().zip(&case.planes) {
         assert_eq!(plane.slice(), entry, "{case}");
     }

@@ -2,7 +2,7 @@
 
 use crate::random::{self, each_round, Random};
 use crate::same::Case;
-use compare::reference::{places, ranges, undo, window, Interval, Settings, TRANSFORMS};
+use compare::reference::{places, ranges, undo, window, Form, Interval, Settings, TRANSFORMS};
 
 /// A case whose planes some picture goes to.
 fn reached(random: &mut Random, origin: &str) -> Case {
@@ -148,7 +148,7 @@ fn sums_fit(case: &Case) {
     let Settings { width, height, transform, .. } = case.settings;
     let (width, height) = (width as usize, height as usize);
     let lent = case.planes.each_ref().map(|plane| plane.iter().map(|&number| i64::from(number)).collect());
-    let undone = undo(transform, width, height, &case.choices, lent.clone());
+    let undone = undo(Form::Plain, transform, width, height, &case.choices, lent.clone());
     for plane in lent.iter().chain(&undone) {
         let (sum, weights) = window(plane, width, height, 11, 1, 1);
         assert!(i32::try_from(2 * sum + weights).is_ok(), "{case}");

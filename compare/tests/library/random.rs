@@ -149,19 +149,28 @@ pub fn case(random: &mut Random, origin: &str) -> Case {
 }
 
 pub fn case_of(random: &mut Random, settings: Settings, origin: &str) -> Case {
-    let choices = choices(random, places(settings.transform));
-    let planes = picture(random, settings);
+    let case = case_without_scratch(random, settings, origin);
     let mut longer = |needed: usize| needed + if random.one_in(2) { 0 } else { random.below(20) };
-    let samples = settings.width as usize * settings.height as usize;
+    let samples = case.samples();
     let lengths = [longer(samples), longer(samples), longer(samples)];
     let counters = longer(counters(settings.depths, settings.transform));
     Case {
-        settings,
         rounds: 1 + random.below(4) as u32,
-        choices,
-        planes,
         trial: lengths.map(|length| (0..length).map(|_| random.number() as i32).collect()),
         counters: (0..counters).map(|_| random.number() as u32).collect(),
+        ..case
+    }
+}
+
+/// A case for the calls that are lent planes and choices alone.
+pub fn case_without_scratch(random: &mut Random, settings: Settings, origin: &str) -> Case {
+    Case {
+        settings,
+        rounds: 0,
+        choices: choices(random, places(settings.transform)),
+        planes: picture(random, settings),
+        trial: Default::default(),
+        counters: Vec::new(),
         alignment: random.below(1000),
         origin: origin.to_string(),
     }

@@ -1,100 +1,12 @@
 //! Every refusal, alone and with others: the first in the order of the tests wins.
 
+use crate::faults::{faults, Call, CALLS};
 use crate::library::c;
 use crate::random::{self, each_round, Random};
 use crate::same::Case;
-use compare::reference::{counters, greatest, places, Settings, TRANSFORMS};
+use crate::wrapped;
+use compare::reference::{greatest, places, Settings, TRANSFORMS};
 use std::ptr::null_mut;
-
-/// A fault and the refusal that it causes.
-struct Fault {
-    number: u32,
-    make: Box<dyn Fn(&mut Case)>,
-}
-
-#[derive(Clone, Copy, PartialEq)]
-enum Call {
-    Forward,
-    Inverse,
-    Estimate,
-    Search,
-}
-
-const CALLS: [Call; 4] = [Call::Forward, Call::Inverse, Call::Estimate, Call::Search];
-
-/// The number that the call answers; everything else is compared on the way.
-fn answer(call: Call, case: &Case) -> u32 {
-    match call {
-        Call::Forward => case.forward().0,
-        Call::Inverse => case.inverse().0,
-        Call::Estimate => case.estimate().refusal,
-        Call::Search => case.search().0.refusal,
-    }
-}
-
-/// All faults that the call tests for, in the order of the tests.
-fn faults(call: Call, case: &Case) -> Vec<Fault> {
-    let mut faults: Vec<Fault> = Vec::new();
-    let mut add = |number, make: Box<dyn Fn(&mut Case)>| faults.push(Fault { number, make });
-    for side in [0, 8193, 65_536, 1 << 31, u32::MAX] {
-        add(2, Box::new(move |case| case.settings.width = side));
-        add(2, Box::new(move |case| case.settings.height = side));
-    }
-    add(2, Box::new(|case| (case.settings.width, case.settings.height) = (65_536, 65_536)));
-    for depth in [0, 1, 17, 31, 32, 34, 256 + 8, u32::MAX] {
-        add(5, Box::new(move |case| case.settings.depths = [depth; 3]));
-        for plane in 0..3 {
-            add(5, Box::new(move |case| case.settings.depths[plane] = depth));
-        }
-    }
-    for transform in [4, 5, 256, 1 << 16, u32::MAX] {
-        add(6, Box::new(move |case| case.settings.transform = transform));
-    }
-    add(7, Box::new(|case| case.choices.truncate(1)));
-    add(7, Box::new(|case| case.choices.push(0)));
-    add(7, Box::new(|case| case.choices.clear()));
-    if call != Call::Search {
-        for place in 0..case.choices.len() {
-            for filter in [13, 128, 255] {
-                add(
-                    7,
-                    Box::new(move |case| case.choices.get_mut(place).into_iter().for_each(|choice| *choice = filter)),
-                );
-            }
-        }
-    }
-    for plane in 0..3 {
-        add(8, Box::new(move |case| case.planes[plane].truncate(1)));
-        add(8, Box::new(move |case| case.planes[plane].push(0)));
-        add(8, Box::new(move |case| case.planes[plane].clear()));
-    }
-    if matches!(call, Call::Estimate | Call::Search) {
-        let (samples, needed) = (case.samples(), counters(case.settings.depths, case.settings.transform));
-        for plane in 0..3 {
-            add(9, Box::new(move |case| case.trial[plane].truncate(samples - 1)));
-            add(9, Box::new(move |case| case.trial[plane].clear()));
-        }
-        add(9, Box::new(move |case| case.counters.truncate(needed - 1)));
-        add(9, Box::new(move |case| case.counters.clear()));
-    }
-    if call == Call::Search {
-        for rounds in [0, 5, 256 + 1, u32::MAX] {
-            add(10, Box::new(move |case| case.rounds = rounds));
-        }
-    }
-    for (plane, greatest) in greatest(case.settings.depths).into_iter().enumerate() {
-        let (number, samples) = match call {
-            Call::Inverse => (12, [i32::MIN, i32::MAX, 1 << 20, -(1 << 20)]),
-            _ => (11, [-1, greatest as i32 + 1, i32::MIN, i32::MAX]),
-        };
-        for sample in samples {
-            let set = move |sample_at: Option<&mut i32>| sample_at.into_iter().for_each(|at| *at = sample);
-            add(number, Box::new(move |case| set(case.planes[plane].first_mut())));
-            add(number, Box::new(move |case| set(case.planes[plane].last_mut())));
-        }
-    }
-    faults
-}
 
 /// A case with no fault for the call. Two pixels, so that every length can be short and not empty.
 fn sound(random: &mut Random, call: Call, transform: u32, origin: &str) -> Case {
@@ -103,7 +15,10 @@ fn sound(random: &mut Random, call: Call, transform: u32, origin: &str) -> Case 
     if call == Call::Inverse {
         case.planes = case.forward().1;
     }
-    assert_eq!(answer(call, &case), 0, "{case}");
+    if call.is_wrapped() {
+        case = case.wrapped();
+    }
+    assert_eq!(call.answer(&case), 0, "{case}");
     case
 }
 
@@ -117,13 +32,13 @@ fn one_fault_and_two() {
                 for (i, first) in faults.iter().enumerate() {
                     let mut one = case.clone();
                     (first.make)(&mut one);
-                    assert_eq!(answer(call, &one), first.number, "{one}");
+                    assert_eq!(call.answer(&one), first.number, "{one}");
                     for second in faults[i + 1..].iter().filter(|second| second.number != first.number) {
                         // The earlier fault last: it may make what the later one changes pointless.
                         let mut two = case.clone();
                         (second.make)(&mut two);
                         (first.make)(&mut two);
-                        assert_eq!(answer(call, &two), first.number, "{two}");
+                        assert_eq!(call.answer(&two), first.number, "{two}");
                     }
                 }
             }
@@ -142,7 +57,7 @@ fn several_faults() {
         for _ in 0..1 + random.below(4) {
             (random.one_of(&faults.iter().collect::<Vec<_>>()).make)(&mut case);
         }
-        answer(call, &case);
+        call.answer(&case);
     });
 }
 
@@ -165,6 +80,7 @@ fn limits_pass() {
                 case.planes = [highest1, 0, highest3].map(|sample| vec![sample as i32; case.samples()]);
                 assert_eq!(case.forward().0, 0, "{case}");
                 assert_eq!(case.estimate().refusal, 0, "{case}");
+                wrapped::both_ways(&case.wrapped());
                 for rounds in if case.samples() == 1 { 1..=4 } else { 1..=1 } {
                     case.rounds = rounds;
                     assert_eq!(case.search().0.refusal, 0, "{case}");
@@ -200,10 +116,10 @@ fn null_pointers() {
     let [t1, t2, t3] = trial.each_mut().map(|plane| plane.as_mut_ptr());
     // SAFETY: every pointer points to as many elements as said, and no two overlap.
     unsafe {
-        for call in [c::rulantip_forward, c::rulantip_inverse] {
-            assert_eq!(call(0, 1, 5, 6, 5, 0, null_mut(), 0, none32, 0, none32, 0, none32, 0), 2);
-            assert_eq!(call(1, 1, 5, 6, 5, 0, null_mut(), 0, none32, 0, none32, 0, none32, 0), 7);
-            assert_eq!(call(1, 1, 5, 6, 5, 0, choice, 4, none32, 0, none32, 0, none32, 0), 8);
+        for call in [c::rulantip_forward, c::rulantip_inverse, c::rulantip_forward_wrapped, c::rulantip_inverse_wrapped] {
+            assert_eq!(call(0, 1, 6, 6, 6, 0, null_mut(), 0, none32, 0, none32, 0, none32, 0), 2);
+            assert_eq!(call(1, 1, 6, 6, 6, 0, null_mut(), 0, none32, 0, none32, 0, none32, 0), 7);
+            assert_eq!(call(1, 1, 6, 6, 6, 0, choice, 4, none32, 0, none32, 0, none32, 0), 8);
         }
         let estimate = |choices, count, plane, samples, t1, t2, t3, trial| {
             let answer = c::rulantip_estimate(

@@ -2,7 +2,7 @@
 
 use crate::lent::{Lent, Word};
 use crate::library::c::{self, InPlace, RulantipEstimated, RulantipPixmap};
-use compare::reference::{self, Estimated, Scratch, Settings};
+use compare::reference::{self, Answer, Estimated, Scratch, Settings};
 use std::fmt;
 
 /// Everything that a call on planes is given.
@@ -38,6 +38,21 @@ impl fmt::Display for Case {
 impl Case {
     pub fn samples(&self) -> usize {
         self.settings.width as usize * self.settings.height as usize
+    }
+
+    /// The case for the wrapped forms: the deepest of its depths for all planes, and no scratch.
+    pub fn wrapped(&self) -> Case {
+        let deepest = self.settings.depths.into_iter().max().unwrap();
+        Case {
+            settings: Settings { depths: [deepest; 3], ..self.settings },
+            rounds: self.rounds,
+            choices: self.choices.clone(),
+            planes: self.planes.clone(),
+            trial: Default::default(),
+            counters: Vec::new(),
+            alignment: self.alignment,
+            origin: self.origin.clone(),
+        }
     }
 
     /// Null at the places whose bit is set, another filter at each of the others.
@@ -76,11 +91,23 @@ impl Case {
     }
 
     /// The inverse call where the expected answer is known already.
-    pub fn inverse_as(&self, expected: Result<[Vec<i32>; 3], u32>) {
+    pub fn inverse_as(&self, expected: Answer) {
         self.in_place("rulantip_inverse", c::rulantip_inverse, expected);
     }
 
-    fn in_place(&self, name: &str, call: InPlace, expected: Result<[Vec<i32>; 3], u32>) -> (u32, [Vec<i32>; 3]) {
+    /// The forward call of the wrapped form; its answer and the planes after it.
+    pub fn forward_wrapped(&self) -> (u32, [Vec<i32>; 3]) {
+        let expected = reference::forward_wrapped(self.settings, &self.choices, self.slices());
+        self.in_place("rulantip_forward_wrapped", c::rulantip_forward_wrapped, expected)
+    }
+
+    /// The inverse call of the wrapped form; its answer and the planes after it.
+    pub fn inverse_wrapped(&self) -> (u32, [Vec<i32>; 3]) {
+        let expected = reference::inverse_wrapped(self.settings, &self.choices, self.slices());
+        self.in_place("rulantip_inverse_wrapped", c::rulantip_inverse_wrapped, expected)
+    }
+
+    fn in_place(&self, name: &str, call: InPlace, expected: Answer) -> (u32, [Vec<i32>; 3]) {
         let mut choices = Lent::new(&self.choices, self.alignment);
         let [mut c1, mut c2, mut c3] = self.lent_planes();
         let Settings { width, height, depths: [depth1, depth2, depth3], transform } = self.settings;

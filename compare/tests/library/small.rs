@@ -1,10 +1,10 @@
-//! Pictures so small that all planes can be tried. What the inverse must answer is read off the
+//! Pictures so small that all planes can be tried. What an inverse must answer is read off the
 //! forward direction alone: which planes some picture goes to.
 
 use crate::lent::{Lent, Word};
-use crate::library::c;
+use crate::library::c::{self, InPlace};
 use crate::random::{self, each_round};
-use compare::reference::{greatest, places, ranges, run, Interval, Settings, TRANSFORMS};
+use compare::reference::{greatest, places, ranges, run, Form, Interval, Settings, TRANSFORMS};
 use std::array::from_fn;
 use std::collections::HashMap;
 
@@ -30,17 +30,31 @@ fn each_planes<const N: usize>(ranges: [Interval; 3], mut with: impl FnMut(Plane
     }
 }
 
-/// Which picture goes to which planes.
-fn reached<const N: usize>(settings: Settings, filters: &[u8]) -> HashMap<Planes<N>, Planes<N>> {
-    let Settings { width, height, depths, transform } = settings;
-    let mut pictures = HashMap::new();
-    each_planes(greatest(depths).map(|high| Interval { low: 0, high }), |picture: Planes<N>| {
+/// Which planes come of which.
+type Reached<const N: usize> = HashMap<Planes<N>, Planes<N>>;
+
+/// Which planes every picture goes to.
+fn finished<const N: usize>(form: Form, settings: Settings, filters: &[u8]) -> Reached<N> {
+    let Settings { width, height, transform, .. } = settings;
+    let mut finished = HashMap::new();
+    each_planes(sample_ranges(settings), |picture: Planes<N>| {
         let whole = picture.map(|plane| plane.map(i64::from).to_vec());
-        let finished = run(transform, width as usize, height as usize, filters, whole);
-        let finished = finished.map(|plane| from_fn(|i| plane[i] as i32));
-        assert_eq!(pictures.insert(finished, picture), None);
+        let planes = run(form, transform, width as usize, height as usize, filters, whole);
+        finished.insert(picture, planes.map(|plane| from_fn(|i| plane[i] as i32)));
     });
+    finished
+}
+
+/// Which picture goes to which planes; no two go to the same.
+fn pictures<const N: usize>(finished: &Reached<N>) -> Reached<N> {
+    let pictures: Reached<N> = finished.iter().map(|(&picture, &planes)| (planes, picture)).collect();
+    assert_eq!(pictures.len(), finished.len());
     pictures
+}
+
+/// The ranges of a picture's planes.
+fn sample_ranges(settings: Settings) -> [Interval; 3] {
+    greatest(settings.depths).map(|high| Interval { low: 0, high })
 }
 
 /// Three planes, each between guard words.
@@ -49,35 +63,67 @@ fn guarded<const N: usize>(planes: Planes<N>) -> [[[i32; N]; 3]; 3] {
     from_fn(|plane| [guards(2 * plane), planes[plane], guards(2 * plane + 1)])
 }
 
+/// A call, the ranges of the planes to try it on, and what it must leave: planes that nothing is reached from are refused
+/// with the number.
+struct Every<'a, const N: usize> {
+    call: InPlace,
+    ranges: [Interval; 3],
+    reached: &'a Reached<N>,
+    refusal: u32,
+}
+
+impl<const N: usize> Every<'_, N> {
+    fn try_planes(&self, settings: Settings, filters: &[u8], origin: &str) {
+        let Settings { width, height, depths: [b1, b2, b3], transform } = settings;
+        let mut choices = Lent::new(filters, N);
+        let (choice, count) = (choices.pointer(), choices.len());
+        let mut accepted = 0;
+        each_planes(self.ranges, |planes: Planes<N>| {
+            let mut lent = guarded(planes);
+            let memory: *mut i32 = lent.as_mut_ptr().cast();
+            // SAFETY: each pointer points to as many elements as said, and no two overlap.
+            let answer = unsafe {
+                let [c1, c2, c3] = [1, 4, 7].map(|part| memory.add(part * N));
+                (self.call)(width, height, b1, b2, b3, transform, choice, count, c1, N, c2, N, c3, N)
+            };
+            let after = self.reached.get(&planes);
+            accepted += usize::from(after.is_some());
+            let (number, after) = after.map_or((self.refusal, planes), |after| (0, *after));
+            assert!(
+                answer == number && lent == guarded(after),
+                "{settings:?}, filters {filters:?}, planes {planes:?}: answer {answer} and memory {lent:?}, \
+                 expected {number} and {:?}\n{origin}",
+                guarded(after)
+            );
+        });
+        assert_eq!(choices.differs("choices", filters), None);
+        let pictures = 1 << (N as u32 * (b1 + b2 + b3));
+        assert_eq!(accepted, pictures, "every picture and its planes lie within the ranges\n{origin}");
+    }
+}
+
+/// The ranges, wider by `beyond` at both ends.
+fn around(ranges: [Interval; 3], beyond: i64) -> [Interval; 3] {
+    ranges.map(|range| Interval { low: range.low - beyond, high: range.high + beyond })
+}
+
 /// The inverse on every three planes within the ranges, and outside by up to `beyond`.
 fn every_inverse<const N: usize>(settings: Settings, filters: &[u8], beyond: i64, origin: &str) {
-    let Settings { width, height, depths, transform } = settings;
-    let [b1, b2, b3] = depths;
-    let pictures = reached::<N>(settings, filters);
-    let mut choices = Lent::new(filters, N);
-    let (choice, count) = (choices.pointer(), choices.len());
-    let around = |range: Interval| Interval { low: range.low - beyond, high: range.high + beyond };
-    let mut accepted = 0;
-    each_planes(ranges(depths, transform).map(around), |planes: Planes<N>| {
-        let mut lent = guarded(planes);
-        let memory: *mut i32 = lent.as_mut_ptr().cast();
-        // SAFETY: each pointer points to as many elements as said, and no two overlap.
-        let answer = unsafe {
-            let [c1, c2, c3] = [1, 4, 7].map(|part| memory.add(part * N));
-            c::rulantip_inverse(width, height, b1, b2, b3, transform, choice, count, c1, N, c2, N, c3, N)
-        };
-        let picture = pictures.get(&planes);
-        accepted += usize::from(picture.is_some());
-        let (number, after) = picture.map_or((12, planes), |picture| (0, *picture));
-        assert!(
-            answer == number && lent == guarded(after),
-            "{settings:?}, filters {filters:?}, planes {planes:?}: answer {answer} and memory {lent:?}, \
-             expected {number} and {:?}\n{origin}",
-            guarded(after)
-        );
-    });
-    assert_eq!(choices.differs("choices", filters), None);
-    assert_eq!(accepted, 1 << (N as u32 * (b1 + b2 + b3)), "every picture's planes lie within the ranges\n{origin}");
+    let reached = &pictures::<N>(&finished(Form::Plain, settings, filters));
+    let ranges = around(ranges(settings.depths, settings.transform), beyond);
+    Every { call: c::rulantip_inverse, ranges, reached, refusal: 12 }.try_planes(settings, filters, origin);
+}
+
+/// Both calls of the wrapped form on every three planes of 0 to M, and outside by up to `beyond`: each of them is a picture,
+/// and what exactly one picture goes to.
+fn every_wrapped<const N: usize>(settings: Settings, filters: &[u8], beyond: i64, origin: &str) {
+    let finished = &finished::<N>(Form::Wrapped(settings.depths[0]), settings, filters);
+    let pictures = &pictures(finished);
+    let ranges = around(sample_ranges(settings), beyond);
+    let [there, back]: [InPlace; 2] = [c::rulantip_forward_wrapped, c::rulantip_inverse_wrapped];
+    for (call, reached) in [(there, finished), (back, pictures)] {
+        Every { call, ranges, reached, refusal: 11 }.try_planes(settings, filters, origin);
+    }
 }
 
 /// Every choice of the filters for the places.
@@ -120,6 +166,30 @@ fn one_pixel_rdgdb() {
 #[test]
 fn one_pixel_ldgeb() {
     one_pixel(3);
+}
+
+/// The wrapped forms of one pixel with every choice of filters at depth 2, and outside 0 to 3 by one.
+#[test]
+fn one_pixel_wrapped() {
+    let every: Vec<u8> = (0..=12).collect();
+    for transform in 0..TRANSFORMS {
+        let settings = Settings { width: 1, height: 1, depths: [2; 3], transform };
+        all_choices(&every, places(transform)).for_each(|filters| every_wrapped::<1>(settings, &filters, 1, ""));
+    }
+}
+
+/// Two and three pixels with some choices of filters.
+#[test]
+fn more_pixels_wrapped() {
+    each_round("more_pixels_wrapped", 4, |random, origin| {
+        for transform in 0..TRANSFORMS {
+            let filters = random::choices(random, places(transform));
+            let (width, height) = random.one_of(&[(2, 1), (1, 2)]);
+            every_wrapped::<2>(Settings { width, height, depths: [2; 3], transform }, &filters, 1, origin);
+            let (width, height) = random.one_of(&[(3, 1), (1, 3)]);
+            every_wrapped::<3>(Settings { width, height, depths: [2; 3], transform }, &filters, 0, origin);
+        }
+    });
 }
 
 /// Two pixels with some choices of filters.

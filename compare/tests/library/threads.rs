@@ -2,6 +2,7 @@
 
 use crate::random::{self, each_round};
 use crate::same::{pixmap, Case};
+use crate::wrapped;
 use compare::generator;
 use compare::reference::{self, Scratch, Settings};
 use std::sync::Barrier;
@@ -35,6 +36,7 @@ impl Known {
         assert_eq!((answer, &finished), (0, &self.finished));
         let back = Case { planes: finished, ..self.case.clone() };
         back.inverse_as(Ok(self.case.planes.clone()));
+        wrapped::both_ways(&self.case.wrapped());
         self.case.estimate_as(Ok(self.found.clone()), true);
         self.case.estimate();
         pixmap(&self.file, b"", [0; 3], &self.case.origin);

@@ -2,14 +2,16 @@
 
 use crate::random::{self, each_round, Random};
 use crate::same::Case;
+use crate::wrapped;
 use compare::reference::{greatest, places, Settings, TRANSFORMS};
 
-/// Forward as the reference, and back to the picture.
+/// Forward as the reference, and back to the picture; the same in the wrapped form.
 fn there_and_back(case: &Case) {
     let (answer, finished) = case.forward();
     assert_eq!(answer, 0, "{case}");
     let back = Case { planes: finished, ..case.clone() };
     back.inverse_as(Ok(case.planes.clone()));
+    wrapped::both_ways(&case.wrapped());
 }
 
 #[test]
@@ -59,6 +61,9 @@ fn every_filter_null() {
         case.choices = vec![12; case.choices.len()];
         assert_eq!(case.forward(), (0, case.planes.clone()), "{case}");
         case.inverse_as(Ok(case.planes.clone()));
+        let wrapped = case.wrapped();
+        assert_eq!(wrapped.forward_wrapped(), (0, case.planes.clone()), "{wrapped}");
+        assert_eq!(wrapped.inverse_wrapped(), (0, case.planes.clone()), "{wrapped}");
     });
 }
 

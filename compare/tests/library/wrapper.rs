@@ -3,15 +3,24 @@
 use crate::library::{self, Estimated, Refusal, Scratch, Settings};
 
 const SETTINGS: Settings = Settings { width: 2, height: 1, depths: [5, 7, 4], transform: 2 };
-const PICTURE: [[i32; 2]; 3] = [[10, 20], [100, 101], [7, 9]];
-const FINISHED: [[i32; 2]; 3] = [[10, 20], [-85, -86], [94, 92]];
+const PICTURE: Planes = [[10, 20], [100, 101], [7, 9]];
+const FINISHED: Planes = [[10, 20], [-85, -86], [94, 92]];
 
-fn forward(settings: Settings, choices: &[u8], mut planes: [[i32; 2]; 3]) -> Result<[[i32; 2]; 3], Refusal> {
-    library::forward(settings, choices, planes.each_mut().map(|plane| plane.as_mut_slice())).map(|()| planes)
+type Planes = [[i32; 2]; 3];
+
+/// One of the calls that change planes in place.
+type Call = fn(Settings, &[u8], [&mut [i32]; 3]) -> Result<(), Refusal>;
+
+fn after(call: Call, settings: Settings, choices: &[u8], mut planes: Planes) -> Result<Planes, Refusal> {
+    call(settings, choices, planes.each_mut().map(|plane| plane.as_mut_slice())).map(|()| planes)
 }
 
-fn inverse(choices: &[u8], mut planes: [[i32; 2]; 3]) -> Result<[[i32; 2]; 3], Refusal> {
-    library::inverse(SETTINGS, choices, planes.each_mut().map(|plane| plane.as_mut_slice())).map(|()| planes)
+fn forward(settings: Settings, choices: &[u8], planes: Planes) -> Result<Planes, Refusal> {
+    after(library::forward, settings, choices, planes)
+}
+
+fn inverse(choices: &[u8], planes: Planes) -> Result<Planes, Refusal> {
+    after(library::inverse, SETTINGS, choices, planes)
 }
 
 fn planes_of(file: &[u8]) -> Result<[[i32; 1]; 3], Refusal> {
@@ -32,6 +41,19 @@ fn transforms() {
     assert_eq!(forward(SETTINGS, &[], PICTURE), Err(Refusal::Choices));
     assert_eq!(forward(Settings { width: 3, ..SETTINGS }, &[1, 1], PICTURE), Err(Refusal::Plane));
     assert_eq!(forward(SETTINGS, &[1, 1], FINISHED), Err(Refusal::Sample));
+}
+
+/// With 7 bits -85 is kept as 43 and -86 as 42.
+#[test]
+fn wrapped_forms() {
+    let one_depth = Settings { depths: [7; 3], ..SETTINGS };
+    let finished = [[10, 20], [43, 42], [94, 92]];
+    assert_eq!(after(library::forward_wrapped, one_depth, &[1, 1], PICTURE), Ok(finished));
+    assert_eq!(after(library::inverse_wrapped, one_depth, &[1, 1], finished), Ok(PICTURE));
+    for call in [library::forward_wrapped, library::inverse_wrapped] {
+        assert_eq!(after(call, SETTINGS, &[1, 1], PICTURE), Err(Refusal::Unequal));
+        assert_eq!(after(call, one_depth, &[1, 1], FINISHED), Err(Refusal::Sample));
+    }
 }
 
 /// The report's example in the papers.
@@ -91,8 +113,6 @@ fn pixmaps() {
 
 #[test]
 fn refusals_by_number() {
-    for (refusal, number) in Refusal::ALL.into_iter().zip(1..) {
-        assert_eq!(refusal.number(), number);
-        assert!(!refusal.to_string().is_empty());
-    }
+    assert_eq!(Refusal::ALL.map(Refusal::number), [1, 2, 3, 4, 5, 6, 7, 8, 9, 10, 11, 12, 16]);
+    assert!(Refusal::ALL.iter().all(|refusal| !refusal.to_string().is_empty()));
 }

@@ -5,6 +5,7 @@ pub mod Ranges
 pub mod Multiples
 pub mod Linear
 pub mod FloorDivision
+pub mod FloorModulo
 pub mod Lists
 pub mod Slices
 pub mod Changes

@@ -1,8 +1,8 @@
--- Whole numbers by their natural parts, ranges that hold 0, and floor division.
+-- Whole numbers by their natural parts, ranges that hold 0, floor division and what it leaves.
 use mathlib.Core.Bool.{Bool, _&&_}
 use Prim.Native.Nat.{ℕ, suc, _≤_}
 use lib.Dec.{leb}
-use lib.IntN.{ℤ, pos, negsuc}
+use lib.IntN.{ℤ, pos, negsuc, _-ℤ_, _*ℤ_}
 use lib.Signed.{shrZ}
 
 -- z = posPart z − negPart z, and one of the two is 0
@@ -26,3 +26,7 @@ within below above z = leb (negPart z) below && leb (posPart z) above
 -- z / d rounded down, also below zero, for a positive d. A signed shift right by k is floorDiv z (2 ^ k).
 abbrev pub floorDiv : ℤ → ℕ → ℤ
 floorDiv z d = shrZ z d
+
+-- z modulo d, as 0 to d − 1: what is left of z less d times floorDiv z d
+unfoldable pub floorMod : ℤ → ℕ → ℤ
+floorMod z d = z -ℤ pos d *ℤ floorDiv z d

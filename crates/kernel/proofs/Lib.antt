@@ -2,6 +2,7 @@ pub mod Quarters
 pub mod Segments
 pub mod Reciprocals
 pub mod Offsets
+pub mod LowBits
 pub mod Windows
 pub mod Borders
 pub mod Means

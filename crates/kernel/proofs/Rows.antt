@@ -7,7 +7,7 @@ use native.Mathlib.Nat.{mul-le-mul-right, add-mul}
 use lib.IntN.{ℤ}
 use Rattle.integers.proofs.Changes.{changed-as}
 use Rattle.stage.specs.Filter.{mean}
-use Rattle.kernel.specs.Pass.{applied}
+use Rattle.kernel.specs.Pass.{KeptPass, applied}
 use Rattle.kernel.specs.Lifting.{MeanRow, MeanSegment, Lifted}
 use Rattle.kernel.specs.Window.{Indicator, windowMean}
 use Rattle.kernel.specs.declared.centre.Centre.{Centre}
@@ -53,12 +53,12 @@ times-below zero n m l f = omega arith
 times-below (suc b) n m l f = let e : suc b ≡ 1 = omega arith in rw e (omega (arith, f (omega arith)))
 
 -- row y, with a row above and below it or not
-pub record RowNeighbourhood (centre : Centre) (w h y p above below : ℕ) (a c : List ℤ) : Type 0 where
+pub record RowNeighbourhood (centre : Centre) (w h y : ℕ) (p : KeptPass) (above below : ℕ) (a c : List ℤ) : Type 0 where
   pub mean-row : MeanRow centre w h y p a c
   pub on-top : Indicator 0 y above
   pub at-bottom : Indicator (y + 1) h below
 
-module _ {centre : Centre} {w h y p above below : ℕ} {a c : List ℤ} (row : RowNeighbourhood centre w h y p above below a c) where
+module _ {centre : Centre} {w h y : ℕ} {p : KeptPass} {above below : ℕ} {a c : List ℤ} (row : RowNeighbourhood centre w h y p above below a c) where
   module _ {left right i j : ℕ} (columns : Columns w left right i j) {m n : ℕ} (from : m ≡ y * w + i) (to : n ≡ y * w + j) {before : List ℤ} (u : Progress p (mean w h (centre .weight) a) (y * w) (y * w + w) m c before) where
     -- the columns before these are done, and these are ready
     pub columns-ready : MeanSegment centre w left right above below p m n a before

@@ -3,6 +3,7 @@ ghost use Prim.Native.Nat.{_+_};
 ghost use Rattle.kernel.specs.Lifting.{MeanSegment, Lifted};
 ghost use Rattle.kernel.specs.Window.{windowMean};
 use crate::centre::Centre;
+use crate::pass::KeptPass;
 use crate::pass::apply;
 use crate::window::window_mean;
 
@@ -17,11 +18,12 @@ pub fn lift_sample(
     above: usize,
     below: usize,
     centre: Centre,
-    pass: u32,
+    pass: KeptPass,
 )
     requires { ⌜ MeanSegment centre width left right above below pass i (i + 1) (now a) (now c) ⌝ }
     ensures { λ _. ⌜ Lifted pass (windowMean width left right above below (centre .weight) (now (a .entry))) i (i + 1) (now (c .entry)) (now (c .exit)) ⌝ }
 {
     let f = window_mean(a, width, i, left, right, above, below, centre);
-    c[i] = apply(pass, c[i], f);
+    let form = pass.form;
+    c[i] = apply(pass.number, form, pass.depth, c[i], f);
 }

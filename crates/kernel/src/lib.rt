@@ -13,6 +13,8 @@ mod row;
 mod segment;
 mod window;
 
+use pass::KeptPass;
+
 // Filters 1 to 11.
 fn lift_means(
     c: &mut [i32],
@@ -22,7 +24,7 @@ fn lift_means(
     width: usize,
     height: usize,
     filter: usize,
-    pass: u32,
+    pass: KeptPass,
 )
     requires { ⌜ LiftableMeans width height filter pass from to (now a) (now c) ⌝ }
     ensures { λ _. ⌜ Lifted pass (filtered width height filter (now (a .entry))) (from * width) (to * width) (now (c .entry)) (now (c .exit)) ⌝ }
@@ -42,7 +44,7 @@ pub fn lift_rows(
     width: usize,
     height: usize,
     filter: usize,
-    pass: u32,
+    pass: KeptPass,
     from: usize,
     to: usize,
 )

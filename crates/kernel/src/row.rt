@@ -5,6 +5,7 @@ ghost use Rattle.kernel.specs.Lifting.{MeanSegment, MeanRow, Lifted};
 ghost use Rattle.kernel.specs.Window.{windowMean};
 use crate::border::lift_sample;
 use crate::centre::Centre;
+use crate::pass::KeptPass;
 use crate::segment::lift_interior;
 use crate::window::indicator;
 
@@ -16,7 +17,7 @@ fn lift_between_ends(
     above: usize,
     below: usize,
     centre: Centre,
-    pass: u32,
+    pass: KeptPass,
     from: usize,
     to: usize,
 )
@@ -42,7 +43,7 @@ pub fn lift_row(
     height: usize,
     y: usize,
     centre: Centre,
-    pass: u32,
+    pass: KeptPass,
 )
     requires { ⌜ MeanRow centre width height y pass (now a) (now c) ⌝ }
     ensures { λ _. ⌜ Lifted pass (mean width height (centre .weight) (now (a .entry))) (y * width) (y * width + width) (now (c .entry)) (now (c .exit)) ⌝ }

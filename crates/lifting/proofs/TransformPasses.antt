@@ -9,18 +9,19 @@ use lib.IntN.{ℤ}
 use lib.ListN.{length, getD}
 use Rattle.integers.specs.Lists.{AllIn, mapIndexed, Changed}
 use Rattle.integers.proofs.Booleans.{and-iff, true-holds, fails-false}
-use Rattle.integers.proofs.Lists.{all-wider, mapIndexed-same}
+use Rattle.integers.proofs.Lists.{all-wider}
 use Rattle.integers.proofs.Changes.{changed-all, changed-as, changed-idle}
 use Rattle.stage.specs.declared.Settings.{Settings}
+use Rattle.stage.specs.declared.Form.{Form}
 use Rattle.stage.specs.declared.Plane.{Plane}
 use Rattle.stage.specs.declared.Plane.the-variants.{C1, C2, C3}
 use Rattle.stage.specs.Planes.{Planes, get, put, samePlane}
 use Rattle.stage.specs.Filter.{filtered}
-use Rattle.stage.specs.Steps.{reversed, steps, places, step}
+use Rattle.stage.specs.Steps.{steps, places, step}
 use Rattle.stage.specs.Transform.{HasSize, setup}
 use Rattle.stage.proofs.Triples.{get-put, get-other, others-same}
-use Rattle.stage.proofs.Unskipped.{lifted-unskipped}
-use Rattle.kernel.specs.Pass.{applied}
+use Rattle.kernel.specs.declared.pass.KeptPass.{KeptPass}
+use Rattle.kernel.specs.Pass.{PassAllowed, keptPass, made, applied}
 use Rattle.kernel.specs.Lifting.{Liftable}
 use Rattle.lifting.specs.declared.passes.Pass.{Pass}
 use Rattle.lifting.specs.declared.passes.Row.{Row}
@@ -75,13 +76,13 @@ read-is C3 C2 h p = refl
 read-is C3 C3 h p = absurd h
 
 -- x is the pass of place k, n its number, c the plane that it changes; b says whether it reads the first other plane
-pub record PassOf (s : Settings) (k : ℕ) (back : Bool) (x : Pass) (n : ℕ) (b : Bool) (c : Plane) : Type 0 where
+pub record PassOf (κ : Form) (s : Settings) (k : ℕ) (back : Bool) (x : Pass) (n : KeptPass) (b : Bool) (c : Plane) : Type 0 where
   pub pass-is : x ≡ passAt (s .transform) k
-  pub number-is : n ≡ number back x
+  pub number-is : n ≡ keptPass (number back x) κ (s .depths .c1)
   pub first-is : b ≡ samePlane (x .read) (firstOther (x .changed))
   pub changed-is : x .changed ≡ c
 
-module _ {s : Settings} {k f from to : ℕ} {p : Planes} {back : Bool} {x : Pass} {n : ℕ} {b : Bool} {c : Plane} (r : PassReady s k f from to p) (o : PassOf s k back x n b c) where
+module _ {κ : Form} {s : Settings} {k f from to : ℕ} {p : Planes} {back : Bool} {x : Pass} {n : KeptPass} {b : Bool} {c : Plane} (r : PassReady s k f from to p) (o : PassOf κ s k back x n b c) where
   abbrev X : Pass
   X = passAt (s .transform) k
 
@@ -89,8 +90,8 @@ module _ {s : Settings} {k f from to : ℕ} {p : Planes} {back : Bool} {x : Pass
   abbrev a : List ℤ
   a = cond b (get p (firstOther c)) (get p (secondOther c))
 
-  number-same : n ≡ number back X
-  number-same = o .number-is ∙ ap (number back) (o .pass-is)
+  number-same : n ≡ keptPass (number back X) κ (s .depths .c1)
+  number-same = o .number-is ∙ ap (λ (y : Pass). keptPass (number back y) κ (s .depths .c1)) (o .pass-is)
 
   changed-same : X .changed ≡ c
   changed-same = sym (ap (λ (y : Pass). y .changed) (o .pass-is)) ∙ o .changed-is
@@ -104,7 +105,7 @@ module _ {s : Settings} {k f from to : ℕ} {p : Planes} {back : Bool} {x : Pass
   pub pass-liftable : Liftable (s .width) (s .height) f n from to a (get p c)
   pass-liftable = record {
     filter = r .filter;
-    pass = subst (λ (m : ℕ). m ≤ 8) (sym number-same) (pass-fits (s .transform) k (r .place) .number back);
+    pass = subst PassAllowed (sym number-same) (record { number = pass-fits (s .transform) k (r .place) .number back; depth = r .depth });
     order = r .order;
     rows = r .rows;
     read-size = ap length read-same ∙ r .planes .size (X .read);
@@ -114,19 +115,19 @@ module _ {s : Settings} {k f from to : ℕ} {p : Planes} {back : Bool} {x : Pass
   }
 
   pub pass-changed : (f ≡ 12 → ⊥) → {after : List ℤ} → Changed (λ i z. applied n z (filtered (s .width) (s .height) f a i)) (from * s .width) (to * s .width) (get p c) after
-      → RowsChanged (passed s back f X p) (X .changed) s from to p (put p c after)
+      → RowsChanged (passed κ s back f X p) (X .changed) s from to p (put p c after)
   pass-changed e {after} u =
-      subst (λ (d : Plane). RowsChanged (passed s back f X p) d s from to p (put p c after)) (sym changed-same) (record {
+      subst (λ (d : Plane). RowsChanged (passed κ s back f X p) d s from to p (put p c after)) (sym changed-same) (record {
         rows =
-            subst (λ (l : List ℤ). Changed (passed s back f X p) (from * s .width) (to * s .width) (get p c) l) (sym (get-put p c after))
+            subst (λ (l : List ℤ). Changed (passed κ s back f X p) (from * s .width) (to * s .width) (get p c) l) (sym (get-put p c after))
             (changed-as _ _ u refl refl
-            (λ i z _ _. ap₂ (λ (m : ℕ) (l : List ℤ). applied m z (filtered (s .width) (s .height) f l i)) number-same read-same ∙ rw (fails-false (eqb f 12) (λ t. e (eqb→eq f 12 t)))));
+            (λ i z _ _. ap₂ (λ (m : KeptPass) (l : List ℤ). applied m z (filtered (s .width) (s .height) f l i)) number-same read-same ∙ rw (fails-false (eqb f 12) (λ t. e (eqb→eq f 12 t)))));
         others = λ d h. get-other p d c after h;
       })
 
 -- a null filter: all rows are as they were
-pub pass-skipped : (s : Settings) (back : Bool) (f from to : ℕ) (x : Pass) (p : Planes) → f ≡ 12 → RowsChanged (passed s back f x p) (x .changed) s from to p p
-pass-skipped s back f from to x p e = record { rows = changed-idle _ _ _ _ (λ i z. rw e); others = λ d h. refl }
+pub pass-skipped : (κ : Form) (s : Settings) (back : Bool) (f from to : ℕ) (x : Pass) (p : Planes) → f ≡ 12 → RowsChanged (passed κ s back f x p) (x .changed) s from to p p
+pass-skipped κ s back f from to x p e = record { rows = changed-idle _ _ _ _ (λ i z. rw e); others = λ d h. refl }
 
 -- ---- all rows changed
 pub changed-rows : {f : ℕ → ℤ → ℤ} {before after : List ℤ} (w h : ℕ) → length before ≡ w * h → Changed f (0 * w) (h * w) before after → after ≡ mapIndexed f 0 before
@@ -138,15 +139,15 @@ pub rows-all : {f : ℕ → ℤ → ℤ} {c : Plane} {s : Settings} {p q : Plane
 rows-all {f} {c} {s} {p} {q} z r = others-same p q c (r .others) ∙ ap (put p c) (changed-rows (s .width) (s .height) (z c) (r .rows))
 
 -- ---- steps of one place
-module _ (s : Settings) (φ : List ℕ) (p : Planes) where
+module _ (κ : Form) (s : Settings) (φ : List ℕ) (p : Planes) where
   -- what the pass of place k makes of all rows
   abbrev whole : Bool → ℕ → ℕ → Planes
   whole back t k =
       let x = passAt t k in
-      put p (x .changed) (mapIndexed (passed s back (getD φ k 0) x p) 0 (get p (x .changed)))
+      put p (x .changed) (mapIndexed (passed κ s back (getD φ k 0) x p) 0 (get p (x .changed)))
 
   abbrev Made : ℕ → ℕ → Bool → Type 0
-  Made t k back = whole back t k ≡ step (setup s φ) (reversedIf back (stepAt t k)) p
+  Made t k back = whole back t k ≡ step (setup κ s φ) (reversedIf back (stepAt t k)) p
 
   both : (t k : ℕ) → Made t k true → Made t k false → (back : Bool) → Made t k back
   both t k x y true = x
@@ -154,7 +155,7 @@ module _ (s : Settings) (φ : List ℕ) (p : Planes) where
 
   -- every step but RCT's third is the pass of the place that has its number
   pub one-pass : (t k : ℕ) → k < length (steps t) → (eqb t 0 && eqb k 2) ≡ false → (back : Bool) → Made t k back
-  unfolding applied
+  unfolding made applied
   one-pass zero zero b e = both 0 0 refl refl
   one-pass zero (suc zero) b e = both 0 1 refl refl
   one-pass zero (suc (suc zero)) b e = absurd (subst T e tt)
@@ -175,15 +176,14 @@ module _ (s : Settings) (φ : List ℕ) (p : Planes) where
 
   -- RCT's third step, in any terms for its filters
   pub quarter-step : (t k f g : ℕ) → (t ≡ 0) × (k ≡ 2) → f ≡ getD φ k 0 → g ≡ getD φ 3 0 → (back : Bool)
-      → put p C2 (mapIndexed (quarterAt (s .width) (s .height) back f g (p .c1) (p .c3)) 0 (p .c2)) ≡ step (setup s φ) (reversedIf back (stepAt t k)) p
+      → put p C2 (mapIndexed (quarterAt κ (s .depths .c1) (s .width) (s .height) back f g (p .c1) (p .c3)) 0 (p .c2)) ≡ step (setup κ s φ) (reversedIf back (stepAt t k)) p
   quarter-step t k f g e m n back =
-      ap₂ (λ (f g : ℕ). put p C2 (mapIndexed (quarterAt (s .width) (s .height) back f g (p .c1) (p .c3)) 0 (p .c2))) (m ∙ ap (λ (j : ℕ). getD φ j 0) (e .1)) n ∙ made back
-      ∙ sym (ap₂ (λ (a b : ℕ). step (setup s φ) (reversedIf back (stepAt a b)) p) (e .0) (e .1))
+      ap₂ (λ (f g : ℕ). put p C2 (mapIndexed (quarterAt κ (s .depths .c1) (s .width) (s .height) back f g (p .c1) (p .c3)) 0 (p .c2))) (m ∙ ap (λ (j : ℕ). getD φ j 0) (e .1)) n ∙ made back
+      ∙ sym (ap₂ (λ (a b : ℕ). step (setup κ s φ) (reversedIf back (stepAt a b)) p) (e .0) (e .1))
     where
-      -- skipped or not: it does not negate
-      made : (back : Bool) → put p C2 (mapIndexed (quarterAt (s .width) (s .height) back (getD φ 2 0) (getD φ 3 0) (p .c1) (p .c3)) 0 (p .c2)) ≡ step (setup s φ) (reversedIf back (stepAt 0 2)) p
-      made true = ap (put p C2) (mapIndexed-same _ _ (λ i z. sym (lifted-unskipped (setup s φ) (λ z. refl) p (reversed (stepAt 0 2)) i z tt)) 0 (p .c2))
-      made false = ap (put p C2) (mapIndexed-same _ _ (λ i z. sym (lifted-unskipped (setup s φ) (λ z. refl) p (stepAt 0 2) i z tt)) 0 (p .c2))
+      made : (back : Bool) → put p C2 (mapIndexed (quarterAt κ (s .depths .c1) (s .width) (s .height) back (getD φ 2 0) (getD φ 3 0) (p .c1) (p .c3)) 0 (p .c2)) ≡ step (setup κ s φ) (reversedIf back (stepAt 0 2)) p
+      made true = refl
+      made false = refl
 
 pub both-equal : (m n i j : ℕ) → (eqb m i && eqb n j) ≡ true → (m ≡ i) × (n ≡ j)
 both-equal m n i j e = let h = and-iff (eqb m i) (eqb n j) .0 (true-holds e) in (eqb→eq m i (h .0), eqb→eq n j (h .1))

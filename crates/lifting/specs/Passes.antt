@@ -1,5 +1,5 @@
 -- Lifting steps as passes of the kernel over a plane.
-use mathlib.Core.Bool.{Bool, false, cond, _||_}
+use mathlib.Core.Bool.{Bool, false, cond, _&&_, _||_}
 use mathlib.Core.List.{List, [], _∷_}
 use Prim.Native.Nat.{ℕ, zero, suc, _+_}
 use lib.Dec.{eqb}
@@ -7,12 +7,14 @@ use lib.IntN.{ℤ, _+ℤ_}
 use lib.ListN.{getD}
 use Rattle.integers.specs.Parts.{floorDiv}
 use Rattle.stage.specs.declared.Settings.{Settings}
+use Rattle.stage.specs.declared.Form.{Form}
 use Rattle.stage.specs.declared.Plane.{Plane}
 use Rattle.stage.specs.declared.Plane.the-variants.{C1, C2, C3}
 use Rattle.stage.specs.Planes.{Planes, get, samePlane}
 use Rattle.stage.specs.Filter.{filtered}
 use Rattle.stage.specs.Steps.{Step, Term, add, subtract, lift, _ᵈ_, _⊕_, _/2, _/4, _←+_, reversed, steps}
-use Rattle.kernel.specs.Pass.{applied}
+use Rattle.stage.specs.Transform.{kept}
+use Rattle.kernel.specs.Pass.{keptPass, applied}
 use Rattle.lifting.specs.declared.passes.Pass.{Pass}
 use Rattle.lifting.specs.declared.passes.Row.{Row}
 
@@ -66,17 +68,19 @@ secondOther C2 = C3
 secondOther C3 = C2
 
 -- what a step of one place makes of the sample z at index i of the plane that its pass changes, under a filter; a null one skips it
-abbrev pub passed : Settings → Bool → ℕ → Pass → Planes → ℕ → ℤ → ℤ
-passed s back filter x p i z =
-    cond (eqb filter 12) z (applied (number back x) z (filtered (s .width) (s .height) filter (get p (x .read)) i))
+abbrev pub passed : Form → Settings → Bool → ℕ → Pass → Planes → ℕ → ℤ → ℤ
+passed κ s back filter x p i z =
+    cond (eqb filter 12) z (applied (keptPass (number back x) κ (s .depths .c1)) z (filtered (s .width) (s .height) filter (get p (x .read)) i))
 
 -- a quarter of two filtered values f and g added to a sample, or back subtracted from it
 abbrev pub quarterLifted : Bool → ℤ → ℤ → ℤ → ℤ
 quarterLifted back z f g = lift (cond back subtract add) (floorDiv (f +ℤ g) 4) z
 
--- the sample at index i of a picture of w by h, by plane a under filter f and plane b under filter g
-abbrev pub quarterAt : ℕ → ℕ → Bool → ℕ → ℕ → List ℤ → List ℤ → ℕ → ℤ → ℤ
-quarterAt w h back f g a b i z = quarterLifted back z (filtered w h f a i) (filtered w h g b i)
+-- the sample at index i of a picture of w by h, by plane a under filter f and plane b under filter g, as the form keeps it at depth d; two null
+-- filters skip it
+abbrev pub quarterAt : (κ : Form) (d w h : ℕ) (back : Bool) (f g : ℕ) (a b : List ℤ) → ℕ → ℤ → ℤ
+quarterAt κ d w h back f g a b i z =
+    cond (eqb f 12 && eqb g 12) z (kept κ d (quarterLifted back z (filtered w h f a i) (filtered w h g b i)))
 
 -- whether place k is one of the term's, and the index of the first step that has place k
 abbrev pub hasPlace : Term → ℕ → Bool

@@ -9,6 +9,7 @@ use lib.ListN.{length, take}
 use Rattle.integers.specs.Lists.{AllIn, Changed}
 use Rattle.integers.specs.Slices.{slice}
 use Rattle.stage.specs.declared.Settings.{Settings}
+use Rattle.stage.specs.declared.Form.{Form}
 use Rattle.stage.specs.declared.Plane.{Plane}
 use Rattle.stage.specs.Settings.{pixels}
 use Rattle.stage.specs.Planes.{Planes, get, samePlane}
@@ -24,6 +25,7 @@ pub record Ready (s : Settings) (p : Planes) : Type 0 where
 -- rows from .. to − 1 by the pass of place k under filter f
 pub record PassReady (s : Settings) (k f from to : ℕ) (p : Planes) : Type 0 where
   pub place : k < places (steps (s .transform))
+  pub depth : s .depths .c1 ≤ 16
   pub filter : f ≤ 12
   pub order : from ≤ to
   pub rows : to ≤ s .height
@@ -31,6 +33,7 @@ pub record PassReady (s : Settings) (k f from to : ℕ) (p : Planes) : Type 0 wh
 
 -- rows from .. to − 1 of plane c by a quarter of planes a and b under filters f and g
 pub record QuarterReady (s : Settings) (f g from to : ℕ) (a b c : List ℤ) : Type 0 where
+  pub depth : s .depths .c1 ≤ 16
   pub first-filter : f ≤ 12
   pub second-filter : g ≤ 12
   pub order : from ≤ to
@@ -51,6 +54,7 @@ pub record RowsChanged (f : ℕ → ℤ → ℤ) (c : Plane) (s : Settings) (fro
 pub record StepReady (s : Settings) (φ : List ℕ) (k : ℕ) (p : Planes) : Type 0 where
   pub transform : s .transform ≤ 3
   pub step : k < length (steps (s .transform))
+  pub depth : s .depths .c1 ≤ 16
   pub choices : T (choicesFit s φ)
   pub planes : Ready s p
 
@@ -59,15 +63,16 @@ pub record StepsFit (s : Settings) (φ : List ℕ) (from to : ℕ) : Type 0 wher
   pub transform : s .transform ≤ 3
   pub order : from ≤ to
   pub last : to ≤ length (steps (s .transform))
+  pub depth : s .depths .c1 ≤ 16
   pub choices : T (choicesFit s φ)
 
-pub record RunReady (s : Settings) (φ : List ℕ) (from to : ℕ) (p : Planes) : Type 0 where
+pub record RunReady (κ : Form) (s : Settings) (φ : List ℕ) (from to : ℕ) (p : Planes) : Type 0 where
   pub fit : StepsFit s φ from to
-  pub before : (k : ℕ) → from ≤ k → k < to → Ready s (run (setup s φ) (slice (steps (s .transform)) from k) p)
+  pub before : (k : ℕ) → from ≤ k → k < to → Ready s (run (setup κ s φ) (slice (steps (s .transform)) from k) p)
 
-pub record UndoReady (s : Settings) (φ : List ℕ) (from to : ℕ) (p : Planes) : Type 0 where
+pub record UndoReady (κ : Form) (s : Settings) (φ : List ℕ) (from to : ℕ) (p : Planes) : Type 0 where
   pub fit : StepsFit s φ from to
-  pub before : (k : ℕ) → from ≤ k → k < to → Ready s (undo (setup s φ) (slice (steps (s .transform)) (suc k) to) p)
+  pub before : (k : ℕ) → from ≤ k → k < to → Ready s (undo (setup κ s φ) (slice (steps (s .transform)) (suc k) to) p)
 
 -- Planes as a picture's are before step k: of its size, and within the ranges that its samples have after k steps.
 pub record AtStep (s : Settings) (k : ℕ) (p : Planes) : Type 0 where

@@ -10,21 +10,28 @@ ghost use Rattle.stage.specs.Filter.{filtered};
 ghost use Rattle.stage.specs.Planes.{triple};
 ghost use Rattle.stage.specs.Steps.{steps, step, run, undo};
 ghost use Rattle.stage.specs.Transform.{setup};
-ghost use Rattle.kernel.specs.Pass.{applied};
+ghost use Rattle.kernel.specs.Pass.{keptPass, applied};
 ghost use Rattle.kernel.specs.Lifting.{Liftable};
 ghost use Rattle.lifting.specs.Passes.{passAt, stepAt, reversedIf, number, firstOther, passed, quarterAt};
 ghost use Rattle.lifting.specs.Steps.{PassReady, QuarterReady, RowsChanged, StepReady, RunReady, UndoReady};
 use crate::passes::Pass;
 use crate::passes::pass_at;
 use kernel::lift_rows;
+use kernel::pass::KeptPass;
+use stage::Form;
 use stage::Plane;
 use stage::Settings;
 use stage::same_plane;
 
-fn pass_number(x: Pass, back: bool) -> u32
-    ensures { λ r. ⌜ r ≡ number back x ⌝ }
+// The kernel's pass forward, or back, and how its result is kept.
+fn kept_pass(x: Pass, back: bool, form: Form, depth: u32) -> KeptPass
+    ensures { λ r. ⌜ r ≡ keptPass (number back x) form depth ⌝ }
 {
-    if back { x.back } else { x.forward }
+    KeptPass {
+        number: if back { x.back } else { x.forward },
+        form: form,
+        depth: depth,
+    }
 }
 
 // The first of the two planes other than one.
@@ -47,7 +54,7 @@ fn lift_by(
     height: usize,
     first: bool,
     filter: usize,
-    pass: u32,
+    pass: KeptPass,
     from: usize,
     to: usize,
 )
@@ -68,6 +75,7 @@ fn lift_plane(
     c2: &mut [i32],
     c3: &mut [i32],
     settings: Settings,
+    form: Form,
     place: usize,
     filter: usize,
     back: bool,
@@ -75,13 +83,13 @@ fn lift_plane(
     to: usize,
 )
     requires { ⌜ PassReady settings place filter from to (triple (now c1) (now c2) (now c3)) ⌝ }
-    ensures { λ _. ⌜ RowsChanged (passed settings back filter (passAt (settings .transform) place) (triple (now (c1 .entry)) (now (c2 .entry)) (now (c3 .entry)))) (passAt (settings .transform) place .changed) settings from to (triple (now (c1 .entry)) (now (c2 .entry)) (now (c3 .entry))) (triple (now (c1 .exit)) (now (c2 .exit)) (now (c3 .exit))) ⌝ }
+    ensures { λ _. ⌜ RowsChanged (passed form settings back filter (passAt (settings .transform) place) (triple (now (c1 .entry)) (now (c2 .entry)) (now (c3 .entry)))) (passAt (settings .transform) place .changed) settings from to (triple (now (c1 .entry)) (now (c2 .entry)) (now (c3 .entry))) (triple (now (c1 .exit)) (now (c2 .exit)) (now (c3 .exit))) ⌝ }
 {
     if filter == 12 {
         return;
     }
     let x = pass_at(settings.transform, place);
-    let n = pass_number(x, back);
+    let n = kept_pass(x, back, form, settings.depths.c1);
     let w = settings.width as usize;
     let h = settings.height as usize;
     let changed = x.changed;
@@ -94,13 +102,14 @@ fn lift_plane(
     }
 }
 
-// RCT's third step, or back: rows from .. to − 1 of plane c by a quarter of the filtered values of planes a and b. Two null filters
-// leave c as it is.
+// RCT's third step, or back: rows from .. to − 1 of plane c by a quarter of the filtered values of planes a and b. The first pass keeps its
+// result as it is, so that it is divided before it is reduced. Two null filters leave c as it is.
 fn lift_quarter(
     c: &mut [i32],
     a: &[i32],
     b: &[i32],
     settings: Settings,
+    form: Form,
     f: usize,
     g: usize,
     back: bool,
@@ -108,13 +117,13 @@ fn lift_quarter(
     to: usize,
 )
     requires { ⌜ QuarterReady settings f g from to (now a) (now b) (now c) ⌝ }
-    ensures { λ _. ⌜ Changed (quarterAt (settings .width) (settings .height) back f g (now (a .entry)) (now (b .entry))) (from * settings .width) (to * settings .width) (now (c .entry)) (now (c .exit)) ⌝ }
+    ensures { λ _. ⌜ Changed (quarterAt form (settings .depths .c1) (settings .width) (settings .height) back f g (now (a .entry)) (now (b .entry))) (from * settings .width) (to * settings .width) (now (c .entry)) (now (c .exit)) ⌝ }
 {
     if (f == 12) & (g == 12) {
         return;
     }
-    let first = pass_number(pass_at(0, 2), back);
-    let second = pass_number(pass_at(0, 3), back);
+    let first = kept_pass(pass_at(0, 2), back, Form::Plain, settings.depths.c1);
+    let second = kept_pass(pass_at(0, 3), back, form, settings.depths.c1);
     let w = settings.width as usize;
     let h = settings.height as usize;
     let mut y = from;
@@ -138,20 +147,21 @@ fn run_step(
     c2: &mut [i32],
     c3: &mut [i32],
     settings: Settings,
+    form: Form,
     choices: &[u8],
     k: usize,
     back: bool,
 )
     requires { ⌜ StepReady settings (now choices) k (triple (now c1) (now c2) (now c3)) ⌝ }
-    ensures { λ _. ⌜ triple (now (c1 .exit)) (now (c2 .exit)) (now (c3 .exit)) ≡ step (setup settings (now (choices .entry))) (reversedIf back (stepAt (settings .transform) k)) (triple (now (c1 .entry)) (now (c2 .entry)) (now (c3 .entry))) ⌝ }
+    ensures { λ _. ⌜ triple (now (c1 .exit)) (now (c2 .exit)) (now (c3 .exit)) ≡ step (setup form settings (now (choices .entry))) (reversedIf back (stepAt (settings .transform) k)) (triple (now (c1 .entry)) (now (c2 .entry)) (now (c3 .entry))) ⌝ }
 {
     let h = settings.height as usize;
     let f = filter_at(choices, k);
     if (settings.transform == 0) & (k == 2) {
         let g = filter_at(choices, 3);
-        lift_quarter(c2, c1, c3, settings, f, g, back, 0, h);
+        lift_quarter(c2, c1, c3, settings, form, f, g, back, 0, h);
     } else {
-        lift_plane(c1, c2, c3, settings, k, f, back, 0, h);
+        lift_plane(c1, c2, c3, settings, form, k, f, back, 0, h);
     }
 }
 
@@ -161,16 +171,17 @@ pub fn run_steps(
     c2: &mut [i32],
     c3: &mut [i32],
     settings: Settings,
+    form: Form,
     choices: &[u8],
     from: usize,
     to: usize,
 )
-    requires { ⌜ RunReady settings (now choices) from to (triple (now c1) (now c2) (now c3)) ⌝ }
-    ensures { λ _. ⌜ triple (now (c1 .exit)) (now (c2 .exit)) (now (c3 .exit)) ≡ run (setup settings (now (choices .entry))) (slice (steps (settings .transform)) from to) (triple (now (c1 .entry)) (now (c2 .entry)) (now (c3 .entry))) ⌝ }
+    requires { ⌜ RunReady form settings (now choices) from to (triple (now c1) (now c2) (now c3)) ⌝ }
+    ensures { λ _. ⌜ triple (now (c1 .exit)) (now (c2 .exit)) (now (c3 .exit)) ≡ run (setup form settings (now (choices .entry))) (slice (steps (settings .transform)) from to) (triple (now (c1 .entry)) (now (c2 .entry)) (now (c3 .entry))) ⌝ }
 {
     let mut k = from;
     while k < to {
-        run_step(c1, c2, c3, settings, choices, k, false);
+        run_step(c1, c2, c3, settings, form, choices, k, false);
         k += 1;
     }
 }
@@ -181,16 +192,17 @@ pub fn undo_steps(
     c2: &mut [i32],
     c3: &mut [i32],
     settings: Settings,
+    form: Form,
     choices: &[u8],
     from: usize,
     to: usize,
 )
-    requires { ⌜ UndoReady settings (now choices) from to (triple (now c1) (now c2) (now c3)) ⌝ }
-    ensures { λ _. ⌜ triple (now (c1 .exit)) (now (c2 .exit)) (now (c3 .exit)) ≡ undo (setup settings (now (choices .entry))) (slice (steps (settings .transform)) from to) (triple (now (c1 .entry)) (now (c2 .entry)) (now (c3 .entry))) ⌝ }
+    requires { ⌜ UndoReady form settings (now choices) from to (triple (now c1) (now c2) (now c3)) ⌝ }
+    ensures { λ _. ⌜ triple (now (c1 .exit)) (now (c2 .exit)) (now (c3 .exit)) ≡ undo (setup form settings (now (choices .entry))) (slice (steps (settings .transform)) from to) (triple (now (c1 .entry)) (now (c2 .entry)) (now (c3 .entry))) ⌝ }
 {
     let mut k = to;
     while from < k {
         k -= 1;
-        run_step(c1, c2, c3, settings, choices, k, true);
+        run_step(c1, c2, c3, settings, form, choices, k, true);
     }
 }

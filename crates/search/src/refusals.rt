@@ -7,6 +7,7 @@ ghost use Rattle.stage.specs.Planes.{triple};
 ghost use Rattle.stage.specs.Settings.{Allowed};
 ghost use Rattle.stage.specs.Search.{countersNeeded, allAtLeast, scratchTests};
 use ranges::counters_needed;
+use stage::Form;
 use stage::Settings;
 use transform::settings::refusal;
 
@@ -45,7 +46,7 @@ pub fn scratch_refusal(
 ) -> u32
     ensures { λ r. ⌜ r ≡ refusal (scratchTests settings choices (triple n1 n2 n3) (triple m1 m2 m3) counters) ⌝ }
 {
-    let n = refusal(settings, choices, n1, n2, n3);
+    let n = refusal(settings, Form::Plain, choices, n1, n2, n3);
     if n != 0 {
         return n;
     }

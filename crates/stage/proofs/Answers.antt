@@ -50,6 +50,10 @@ holds-append ((b else n) ∷ l) m = (
   λ h. (h .0 .0, holds-append l m .1 (h .0 .1, h .1)),
 )
 
+positive : (n : ℕ) → T (ltb 0 n) → n ≡ 0 → ⊥
+positive zero t e = t
+positive (suc n) t e = omega arith
+
 module _ {A M : Type 0} (v : A) (result before : M) where
   pub outcome-done : (l : List Test) → refusal l ≡ 0 → outcome l v result before ≡ record { reply = done v; memory = result }
   outcome-done l e = rw e
@@ -72,15 +76,27 @@ module _ {A M : Type 0} (v : A) (result before : M) where
     λ h. outcome-done l (holds-refusal l (h .0)) ∙ ap (λ (m : M). record { reply = done v; memory = m }) (h .1),
   )
 
+  -- where the first tests hold, the last one's number is answered exactly where it fails
+  pub refused-iff : (l : List Test) (b : Bool) (n : ℕ) → Holds l → T (ltb 0 n)
+      → (outcome (l ++ (b else n) ∷ []) v result before ≡ record { reply = refused n; memory = before }) ↔ (T b → ⊥)
+  refused-iff l b n h k = (λ e. went b (past b) e, λ f. sym (kept b (past b) f))
+    where
+      past : (b : Bool) → refusal (l ++ (b else n) ∷ []) ≡ cond b 0 n
+      past b = refusal-past l ((b else n) ∷ []) h
+
+      went : (b : Bool) → refusal (l ++ (b else n) ∷ []) ≡ cond b 0 n → outcome (l ++ (b else n) ∷ []) v result before ≡ record { reply = refused n; memory = before } → T b → ⊥
+      went true p e t = let d : done v ≡ refused n = ap (λ (o : Outcome A M). o .reply) (sym (outcome-done (l ++ (true else n) ∷ []) p) ∙ e) in let z : _≡_ {A = ℕ} 0 1 = cc in omega arith
+      went false p e t = t
+
+      kept : (b : Bool) → refusal (l ++ (b else n) ∷ []) ≡ cond b 0 n → (T b → ⊥) → record { reply = refused n; memory = before } ≡ outcome (l ++ (b else n) ∷ []) v result before
+      kept true p f = absurd (f tt)
+      kept false p f = sym (outcome-refused (l ++ (false else n) ∷ []) n (sym p) (positive n k))
+
 -- ---- A call makes its first tests, l, whose refusal is n, and then its last one, b: the first that fails decides, and where none
 -- does the call is done.
 numbered-first : (l m : List Test) → Numbered (l ++ m) → Numbered l × Numbered m
 numbered-first [] m k = (tt, k)
 numbered-first ((b else n) ∷ l) m k = let i = numbered-first l m (k .1) in ((k .0, i .0), i .1)
-
-positive : (n : ℕ) → T (ltb 0 n) → n ≡ 0 → ⊥
-positive zero t e = t
-positive (suc n) t e = omega arith
 
 pub record Decides {A M : Type 0} (l : List Test) (b : Bool) (m : ℕ) (v : A) (result before : M) (n : ℕ) : Type 0 where
   pub first : (n ≡ 0 → ⊥) → record { reply = refused n; memory = before } ≡ outcome (l ++ (b else m) ∷ []) v result before

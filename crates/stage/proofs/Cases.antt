@@ -5,6 +5,7 @@ use Prim.Native.Nat.{ℕ, _*_, _-_, _≤_}
 use native.Mathlib.Omega.{arith}
 use lib.Dec.{lit≤}
 use lib.Ieee.{size}
+use Rattle.integers.specs.Parts.{floorMod}
 use Rattle.integers.specs.Lists.{allWithin}
 use Rattle.stage.specs.Decimal.{isDigit, decimal, digitCount, afterDigits, digits, numeral}
 use Rattle.stage.specs.Filter.{filtered, mean}
@@ -18,6 +19,7 @@ use Rattle.stage.specs.Cases.{marked, CasesHold}
 use Rattle.stage.specs.FilterCases.{oneColour, filterCases, countedCases, FilterCasesHold}
 use Rattle.stage.specs.TransformCases.{planeCases, nullCases, limitCases, orderCases, TransformCasesHold}
 use Rattle.stage.specs.DepthCases.{depthRangeCases, depthCases, DepthCasesHold}
+use Rattle.stage.specs.WrappedCases.{wrappedCases, keptCases, refusalCases, WrappedCasesHold}
 use Rattle.stage.specs.SearchCases.{estimateCases, tieCases, scratchCases, EstimateCasesHold, TieCasesHold}
 use Rattle.stage.specs.PixmapCases.{textCases, fileCases, planesCases, PixmapCasesHold}
 use Rattle.stage.proofs.OneColour.{one-colour}
@@ -42,6 +44,10 @@ transform-cases-hold = (refl, refl, refl, refl)
 pub depth-cases-hold : DepthCasesHold
 unfolding depthRangeCases depthCases forward inverse transformed untransformed filtered mean allWithin
 depth-cases-hold = (refl, refl)
+
+pub wrapped-cases-hold : WrappedCasesHold
+unfolding wrappedCases keptCases refusalCases floorMod forward inverse transformed untransformed filtered mean allWithin
+wrapped-cases-hold = (refl, refl, refl)
 
 pub tie-cases-hold : TieCasesHold
 unfolding tieCases winner round rounds searched

@@ -6,15 +6,15 @@ use Prim.Native.Nat.{ℕ}
 use lib.IntN.{ℤ}
 use Rattle.integers.specs.Lists.{mapIndexed}
 use Rattle.integers.proofs.Lists.{mapIndexed-same, mapIndexed-id}
-use Rattle.stage.specs.Settings.{Settings, settingsOf}
+use Rattle.stage.specs.Settings.{Settings, Form, settingsOf}
 use Rattle.stage.specs.Planes.{Planes, get, put}
 use Rattle.stage.specs.Steps.{Setup, Step, Term, _ᵈ_, _⊕_, _/2, _/4, value, allNull, lift, lifted, reversed, step, run, undo, steps}
 use Rattle.stage.specs.Transform.{setup, transformed, untransformed}
 use Rattle.stage.specs.Equations.{EquationsHold}
 
-module _ (s : Settings) (φ : List ℕ) where
+module _ (κ : Form) (s : Settings) (φ : List ℕ) where
   abbrev σ : Setup
-  σ = setup s φ
+  σ = setup κ s φ
 
   -- one filter a place: null at one index, null at all
   null-everywhere : (t : Term) (i : ℕ) → allNull σ t i ≡ allNull σ t 0
@@ -24,7 +24,7 @@ module _ (s : Settings) (φ : List ℕ) where
   null-everywhere (t /4) i = null-everywhere t i
 
   abbrev changed : Step → Planes → ℕ → ℤ → ℤ
-  changed x p i = lift (x .lifting) (value σ p (x .term) i)
+  changed x p i z = σ .keep (lift (x .lifting) (value σ p (x .term) i) z)
 
   abbrev whole : Step → Planes → Planes
   whole x p = put p (x .plane) (cond (allNull σ (x .term) 0) (get p (x .plane)) (mapIndexed (changed x p) 0 (get p (x .plane))))
@@ -58,8 +58,8 @@ module _ (s : Settings) (φ : List ℕ) where
 pub equations-hold : EquationsHold
 unfolding transformed untransformed
 equations-hold = (
-  record { there = λ w h b φ p. run-whole (settingsOf w h b 0) φ (steps 0) p; back = λ w h b φ q. undo-whole (settingsOf w h b 0) φ (steps 0) q },
-  record { there = λ w h b φ p. run-whole (settingsOf w h b 1) φ (steps 1) p; back = λ w h b φ q. undo-whole (settingsOf w h b 1) φ (steps 1) q },
-  record { there = λ w h b φ p. run-whole (settingsOf w h b 2) φ (steps 2) p; back = λ w h b φ q. undo-whole (settingsOf w h b 2) φ (steps 2) q },
-  record { there = λ w h b φ p. run-whole (settingsOf w h b 3) φ (steps 3) p; back = λ w h b φ q. undo-whole (settingsOf w h b 3) φ (steps 3) q },
+  record { there = λ κ w h b φ p. run-whole κ (settingsOf w h b 0) φ (steps 0) p; back = λ κ w h b φ q. undo-whole κ (settingsOf w h b 0) φ (steps 0) q },
+  record { there = λ κ w h b φ p. run-whole κ (settingsOf w h b 1) φ (steps 1) p; back = λ κ w h b φ q. undo-whole κ (settingsOf w h b 1) φ (steps 1) q },
+  record { there = λ κ w h b φ p. run-whole κ (settingsOf w h b 2) φ (steps 2) p; back = λ κ w h b φ q. undo-whole κ (settingsOf w h b 2) φ (steps 2) q },
+  record { there = λ κ w h b φ p. run-whole κ (settingsOf w h b 3) φ (steps 3) p; back = λ κ w h b φ q. undo-whole κ (settingsOf w h b 3) φ (steps 3) q },
 )

@@ -3,6 +3,7 @@ pub mod Reversal
 pub mod StepLists
 pub mod Means
 pub mod StepRanges
+pub mod Forms
 pub mod RangeTable
 pub mod DeeperPlanes
 pub mod Numbers
@@ -11,6 +12,7 @@ pub mod Answers
 pub mod Validity
 pub mod Choices
 pub mod Demand3
+pub mod WrappedForms
 pub mod Setups
 pub mod NullSteps
 pub mod Unskipped

@@ -7,7 +7,7 @@ use lib.Dec.{T}
 use lib.ListN.{replicate}
 use Rattle.integers.proofs.Booleans.{and-iff, holds-true}
 use Rattle.integers.proofs.Lists.{mapIndexed-same, mapIndexed-id}
-use Rattle.stage.specs.Settings.{Settings}
+use Rattle.stage.specs.Settings.{Settings, Form}
 use Rattle.stage.specs.Planes.{Planes, get, put}
 use Rattle.stage.specs.Steps.{Setup, Step, value, allNull, skipped, lift, lifted, reversed, step, run, steps, places}
 use Rattle.stage.specs.Transform.{setup, transformed}
@@ -42,17 +42,17 @@ pub null-steps-skipped : NullStepsSkipped
 null-steps-skipped σ x p s n = (step-null σ s x p n, step-null σ s (reversed x) p n)
 
 -- ---- every filter null
-all-null : (s : Settings) (t : ℕ) → AllNull (setup s (replicate (places (steps t)) 12)) (steps t)
-all-null s zero = (λ i. tt, (λ i. tt, (λ i. tt, tt)))
-all-null s (suc zero) = (λ i. tt, (λ i. tt, (λ i. tt, (λ i. tt, tt))))
-all-null s (suc (suc zero)) = (λ i. tt, (λ i. tt, tt))
-all-null s (suc (suc (suc zero))) = (λ i. tt, (λ i. tt, (λ i. tt, tt)))
-all-null s (suc (suc (suc (suc t)))) = tt
+all-null : (κ : Form) (s : Settings) (t : ℕ) → AllNull (setup κ s (replicate (places (steps t)) 12)) (steps t)
+all-null κ s zero = (λ i. tt, (λ i. tt, (λ i. tt, tt)))
+all-null κ s (suc zero) = (λ i. tt, (λ i. tt, (λ i. tt, (λ i. tt, tt))))
+all-null κ s (suc (suc zero)) = (λ i. tt, (λ i. tt, tt))
+all-null κ s (suc (suc (suc zero))) = (λ i. tt, (λ i. tt, (λ i. tt, tt)))
+all-null κ s (suc (suc (suc (suc t)))) = tt
 
 pub nulls-leave-pictures : NullsLeavePictures
 unfolding transformed
-nulls-leave-pictures s p a h =
+nulls-leave-pictures κ s p a d h =
     let φ = nulls s in
     let fit = choices-equal s (places (steps (s .transform))) 12 tt refl in
-    let g : GoesTo s φ p p = record { picture = h; goes = run-null (setup s φ) tt (steps (s .transform)) p (all-null s (s .transform)) } in
-    record { goes = g; there = forward-iff s φ p p .1 ((a, fit), g); back = inverse-iff s φ p p .1 ((a, fit), g) }
+    let g : GoesTo κ s φ p p = record { picture = h; goes = run-null (setup κ s φ) tt (steps (s .transform)) p (all-null κ s (s .transform)) } in
+    record { goes = g; there = forward-iff κ s φ p p .1 (((a, d), fit), g); back = inverse-iff κ s φ p p .1 (((a, d), fit), g) }

@@ -6,14 +6,14 @@ use native.Mathlib.Omega.{arith}
 use lib.Pow.{pow-pos, pow-add}
 use lib.ListN.{getD, take}
 use Rattle.integers.specs.Lists.{AllIn}
-use Rattle.stage.specs.Settings.{Settings, Depths, each}
+use Rattle.stage.specs.Settings.{Settings, Plain, Depths, each}
 use Rattle.stage.specs.Planes.{C3, Triple, Planes, triple}
 use Rattle.stage.specs.Steps.{Step, transforms, YCoCg-R, steps, run}
 use Rattle.stage.specs.Ranges.{Range, ranges, sampleRange, sampleRanges, finishedRanges, rangeRow, rangeTable, depthTable, threeRows, InRanges}
-use Rattle.stage.specs.Transform.{setup, transformed}
-use Rattle.stage.specs.Demand3.{GoesTo}
+use Rattle.stage.specs.Transform.{setup}
 use Rattle.stage.specs.Theorems.{RangesAreTable, RangesAreRows, SecondStepRange, StepsKeepRanges, SecondStepSamples, WithinTable}
-use Rattle.stage.proofs.StepRanges.{setup-keeps, run-in}
+use Rattle.stage.proofs.StepRanges.{plain-keeps, run-in}
+use Rattle.stage.proofs.Forms.{goes-within}
 
 range-is : (a b : ℕ) (r : Range) → (a ≡ r .below) × (b ≡ r .above) → r ≡ record { below = a; above = b }
 range-is a b r e = sym (λ i. record { below = e .0 i; above = e .1 i })
@@ -82,15 +82,8 @@ steps-keep-ranges s σ n p k h = run-in σ (take n (steps (s .transform))) (samp
 
 pub second-step-samples : SecondStepSamples
 second-step-samples s b φ p d e h =
-    subst (λ (r : Range). AllIn (r .below) (r .above) (run (setup s φ) (take 2 YCoCg-R) p .c3)) (second-step-range s b d e)
-    (run-in (setup s φ) (take 2 YCoCg-R) (sampleRanges s) p (setup-keeps s φ _) (h .samples) C3)
-
--- what a picture goes to lies within the ranges of finished planes
-pub goes-within : (s : Settings) (φ : List ℕ) (p q : Planes) → GoesTo s φ p q → InRanges (finishedRanges s) q
-unfolding transformed
-goes-within s φ p q g =
-    subst (InRanges (finishedRanges s)) (g .goes)
-    (run-in (setup s φ) (steps (s .transform)) (sampleRanges s) p (setup-keeps s φ _) (g .picture .samples))
+    subst (λ (r : Range). AllIn (r .below) (r .above) (run (setup Plain s φ) (take 2 YCoCg-R) p .c3)) (second-step-range s b d e)
+    (run-in (setup Plain s φ) (take 2 YCoCg-R) (sampleRanges s) p (plain-keeps s φ _) (h .samples) C3)
 
 pub within-table : WithinTable
-within-table s b φ p q d e g = subst (λ (r : Triple Range). InRanges r q) (ranges-are-table s b d e) (goes-within s φ p q g)
+within-table s b φ p q d e g = subst (λ (r : Triple Range). InRanges r q) (ranges-are-table s b d e) (goes-within Plain s φ p q tt g)

@@ -13,8 +13,6 @@ use Rattle.integers.proofs.Lists.{mapIndexed-inverse, mapIndexed-every, length-
 use Rattle.stage.specs.Planes.{Plane, Planes, get, put, samePlane}
 use Rattle.stage.specs.Filter.{filtered}
 use Rattle.stage.specs.Steps.{Setup, Step, Term, Lifting, add, subtract, negate, _ᵈ_, _⊕_, _/2, _/4, value, lift, lifted, skipped, step, opposite, reversed, run, undo, steps}
-use Rattle.stage.specs.Transform.{setup, transformed, untransformed}
-use Rattle.stage.specs.Theorems.{StepsCancel}
 use Rattle.stage.proofs.Triples.{get-put, put-put, put-get, get-other, put-both}
 
 -- the term does not read plane c
@@ -125,6 +123,10 @@ module _ (σ : Setup) where
         0 (get p (s .plane)) (h (s .plane)))
         ∙ put-get p (s .plane))
 
+    pub run-kept : (l : List Step) (p : Planes) → Kept p → Kept (run σ l p)
+    run-kept [] p h = h
+    run-kept (s ∷ l) p h = run-kept l (step σ s p) (step-kept s p h)
+
     pub undo-kept : (l : List Step) (p : Planes) → Kept p → Kept (undo σ l p)
     undo-kept [] p h = h
     undo-kept (s ∷ l) p h = step-kept (reversed s) (undo σ l p) (undo-kept l p h)
@@ -140,10 +142,3 @@ module _ (σ : Setup) where
         (subst (λ (u : Step). step σ u (step σ (reversed s) (undo σ l p)) ≡ undo σ l p) (reversed-twice s)
         (step-undone (reversed s) (d .0) (undo σ l p) (undo-kept l p h)))
         ∙ run-undo l (d .1) p h
-
-pub steps-cancel : StepsCancel
-unfolding transformed untransformed
-steps-cancel s φ p =
-    let σ = setup s φ in
-    let t = s .transform in
-    (undo-run σ (unchanged (λ x. refl)) (steps t) (apart t) p (λ c k. refl), run-undo σ (unchanged (λ x. refl)) (steps t) (apart t) p (λ c k. refl))

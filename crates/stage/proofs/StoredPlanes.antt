@@ -13,6 +13,7 @@ use Rattle.integers.specs.Lists.{at, AllIn, mapIndexed}
 use Rattle.integers.proofs.Booleans.{and-iff, not-both}
 use Rattle.integers.proofs.Lists.{length-mapIndexed, at-mapped, ext-at, all-wider}
 use Rattle.integers.proofs.Parts.{add-difference, neg-parts, eq-parts}
+use Rattle.stage.specs.Settings.{Plain}
 use Rattle.stage.specs.Planes.{Plane, C1, C2, C3, Planes, get, put, samePlane}
 use Rattle.stage.specs.Steps.{Setup, Step, Lifting, add, subtract, negate, value, allNull, skipped, lift, lifted, opposite, step, run, steps}
 use Rattle.stage.specs.Ranges.{maxSample}
@@ -114,8 +115,8 @@ pub no-other-picture : NoOtherPicture
 unfolding transformed
 no-other-picture s φ p r h e =
     let l = steps (s .transform) in
-    let g = inverse-iff s φ r (run (unskipped (setup s φ)) l p) .0 e .1 in
-    run-same (setup s φ) (λ z. refl) m l (separate (s .transform)) p r (positive m l p (samples h)) (positive m l r (samples (g .picture))) (sym (g .goes))
+    let g = inverse-iff Plain s φ r (run (unskipped (setup Plain s φ)) l p) .0 e .1 in
+    run-same (setup Plain s φ) (λ z. refl) m l (separate (s .transform)) p r (positive m l p (samples h)) (positive m l r (samples (g .picture))) (sym (g .goes))
   where
     -- the highest of all samples
     m : ℕ

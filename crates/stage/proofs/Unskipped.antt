@@ -10,6 +10,7 @@ use Rattle.integers.specs.Parts.{floorDiv}
 use Rattle.integers.proofs.Booleans.{and-iff, not-both, choice-same}
 use Rattle.integers.proofs.Linear.{flat, count, eq-lin}
 use Rattle.integers.proofs.Lists.{mapIndexed-same}
+use Rattle.stage.specs.Settings.{Plain}
 use Rattle.stage.specs.Planes.{Planes, get, put}
 use Rattle.stage.specs.Filter.{filtered}
 use Rattle.stage.specs.Steps.{Setup, Step, Term, Lifting, add, subtract, negate, _ᵈ_, _⊕_, _/2, _/4, value, allNull, skipped, lift, lifted, opposite, reversed, step, run, undo, steps}
@@ -70,14 +71,14 @@ module _ (σ : Setup) (unchanged : (z : ℤ) → σ .keep z ≡ z) where
 pub skips-matter-only-in-negation : SkipsMatterOnlyInNegation
 unfolding transformed untransformed
 skips-matter-only-in-negation s φ p h = record {
-  there = run-unskipped (setup s φ) (λ z. refl) (steps (s .transform)) p h;
-  back = undo-unskipped (setup s φ) (λ z. refl) (steps (s .transform)) p h;
+  there = run-unskipped (setup Plain s φ) (λ z. refl) (steps (s .transform)) p h;
+  back = undo-unskipped (setup Plain s φ) (λ z. refl) (steps (s .transform)) p h;
 }
 
 pub first-two-unaffected : FirstTwoUnaffected
 first-two-unaffected s φ p h = skips-matter-only-in-negation s φ p (none (s .transform) h)
   where
-    none : (t : ℕ) → t ≤ 1 → NoNullNegation (setup s φ) (steps t)
+    none : (t : ℕ) → t ≤ 1 → NoNullNegation (setup Plain s φ) (steps t)
     none zero h = (λ i. tt, (λ i. tt, (λ i. tt, tt)))
     none (suc zero) h = (λ i. tt, (λ i. tt, (λ i. tt, (λ i. tt, tt))))
     none (suc (suc t)) h = absurd (omega arith)

@@ -9,7 +9,7 @@ use lib.Dec.{T, leb, eqb, leb→le, le→leb, eqb→eq, eqb-refl}
 use lib.ListN.{length}
 use Rattle.integers.proofs.Booleans.{holds-true, and-iff}
 use Rattle.stage.specs.Answers.{between}
-use Rattle.stage.specs.Settings.{Settings, depthAt, depthsAllowed, pixels, Allowed}
+use Rattle.stage.specs.Settings.{Settings, Form, depthAt, depthsAllowed, depthsSuit, pixels, Allowed}
 use Rattle.stage.specs.Planes.{Plane, C1, C2, C3, Triple, Planes, get}
 use Rattle.stage.specs.Ranges.{widest}
 use Rattle.stage.specs.Transform.{lengths, allEqual, settingsTests, HasSize}
@@ -38,14 +38,15 @@ counters-told s a =
     ap (λ (b : Bool). cond b (countersNeeded s) 0)
     (holds-true (depthsAllowed (s .depths) && leb (s .transform) 3) (and-iff (depthsAllowed (s .depths)) (leb (s .transform) 3) .1 (fit, known)))
 
--- The settings are allowed, the call's own test of the choices holds, and the planes, of lengths l, have the picture's size.
-pub record ValidSettings (s : Settings) (choices : Bool) (l : Triple ℕ) : Type 0 where
+-- The settings are allowed, the form takes the depths, the call's own test of the choices holds, and the planes, of lengths l, have the picture's size.
+pub record ValidSettings (κ : Form) (s : Settings) (choices : Bool) (l : Triple ℕ) : Type 0 where
   pub allowed : Allowed s
+  pub depths-suit : T (depthsSuit κ (s .depths))
   pub choices-fit : T choices
   pub size : (c : Plane) → get l c ≡ pixels s
 
-pub settings-iff : (s : Settings) (choices : Bool) (l : Triple ℕ) → Holds (settingsTests s choices l) ↔ ValidSettings s choices l
-settings-iff s choices l =
+pub settings-iff : (κ : Form) (s : Settings) (choices : Bool) (l : Triple ℕ) → Holds (settingsTests κ s choices l) ↔ ValidSettings κ s choices l
+settings-iff κ s choices l =
     let size = sized-iff (s .width) (s .height) in
     let depths = depths-iff s in
     let all = allEqual-iff (pixels s) l in (
@@ -57,16 +58,17 @@ settings-iff s choices l =
           height-most = d .1 .1;
           depth-least = λ c. depths .0 (k .1 .0) c .0;
           depth-most = λ c. depths .0 (k .1 .0) c .1;
-          transform-most = leb→le (s .transform) 3 (k .1 .1 .0);
+          transform-most = leb→le (s .transform) 3 (k .1 .1 .1 .0);
         };
-        choices-fit = k .1 .1 .1 .0;
-        size = all .0 (k .1 .1 .1 .1 .0);
+        depths-suit = k .1 .1 .0;
+        choices-fit = k .1 .1 .1 .1 .0;
+        size = all .0 (k .1 .1 .1 .1 .1 .0);
       },
       λ v. let a = v .allowed in (
         size .1 ((a .width-least, a .width-most), (a .height-least, a .height-most)),
         (
           depths .1 (λ c. (a .depth-least c, a .depth-most c)),
-          (le→leb (s .transform) 3 (a .transform-most), (v .choices-fit, (all .1 (v .size), tt))),
+          (v .depths-suit, (le→leb (s .transform) 3 (a .transform-most), (v .choices-fit, (all .1 (v .size), tt)))),
         ),
       ),
     )
@@ -77,17 +79,20 @@ length-at p C1 = refl
 length-at p C2 = refl
 length-at p C3 = refl
 
-pub has-size : {s : Settings} {choices : Bool} (p : Planes) → ValidSettings s choices (lengths p) → HasSize s p
+pub has-size : {κ : Form} {s : Settings} {choices : Bool} (p : Planes) → ValidSettings κ s choices (lengths p) → HasSize s p
 has-size p v c = sym (length-at p c) ∙ v .size c
 
-valid : {s : Settings} (choices : Bool) (p : Planes) → Allowed s → T choices → HasSize s p → ValidSettings s choices (lengths p)
-valid choices p a t z = record { allowed = a; choices-fit = t; size = λ c. length-at p c ∙ z c }
+valid : (κ : Form) {s : Settings} (choices : Bool) (p : Planes) → Allowed s → T (depthsSuit κ (s .depths)) → T choices → HasSize s p → ValidSettings κ s choices (lengths p)
+valid κ choices p a d t z = record { allowed = a; depths-suit = d; choices-fit = t; size = λ c. length-at p c ∙ z c }
 
 -- the tests of planes p pass exactly where all that is so
-pub valid-iff : (s : Settings) (choices : Bool) (p : Planes) → Holds (settingsTests s choices (lengths p)) ↔ ((Allowed s × T choices) × HasSize s p)
-valid-iff s choices p =
-    let i = settings-iff s choices (lengths p) in
-    (λ h. let v = i .0 h in ((v .allowed, v .choices-fit), has-size p v), λ k. i .1 (valid choices p (k .0 .0) (k .0 .1) (k .1)))
+pub valid-iff : (κ : Form) (s : Settings) (choices : Bool) (p : Planes)
+    → Holds (settingsTests κ s choices (lengths p)) ↔ (((Allowed s × T (depthsSuit κ (s .depths))) × T choices) × HasSize s p)
+valid-iff κ s choices p =
+    let i = settings-iff κ s choices (lengths p) in (
+      λ h. let v = i .0 h in (((v .allowed, v .depths-suit), v .choices-fit), has-size p v),
+      λ k. i .1 (valid κ choices p (k .0 .0 .0) (k .0 .0 .1) (k .0 .1) (k .1)),
+    )
 
 -- how many pixels a picture has
 pub pixels-some : {s : Settings} → Allowed s → 1 ≤ pixels s

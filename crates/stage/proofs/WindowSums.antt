@@ -21,7 +21,7 @@ use Rattle.stage.specs.Transform.{setup}
 use Rattle.stage.specs.Case.{minus}
 use Rattle.stage.specs.WindowSums.{SignedBits, BitsOfI32, RunSumsFit, WindowFits, SumsIn32Bits, BitsTooFew}
 use Rattle.stage.proofs.Means.{weightedSum-in}
-use Rattle.stage.proofs.StepRanges.{setup-keeps}
+use Rattle.stage.proofs.Forms.{forms-keep-ranges}
 use Rattle.stage.proofs.Numbers.{met-forward, met-back, bounded-in}
 use Rattle.stage.proofs.Demand3.{withinRanges-iff}
 
@@ -63,7 +63,7 @@ run-fits bits most s σ d k = record {
 pub sums-in-32-bits : SumsIn32Bits
 sums-in-32-bits = record {
   every = run-fits _ (λ centre m. omega arith);
-  calls = λ s φ d. run-fits _ (λ centre m. omega arith) s (setup s φ) d (setup-keeps s φ _);
+  calls = λ κ s φ d h. run-fits _ (λ centre m. omega arith) s (setup κ s φ) d (forms-keep-ranges κ s φ h);
 }
 
 pub bits-of-i32 : BitsOfI32

@@ -1,5 +1,6 @@
 -- The four transforms and their inverses once more, as 01's equations one after the other, and the propositions that the lists of
--- steps say the same. d k a i is plane a's filtered value at index i, with the filter of place k; null k says whether that is null.
+-- steps say the same. d k a i is plane a's filtered value at index i, with the filter of place k; null k says whether that is null; keep
+-- is what becomes of a step's result.
 use mathlib.Core.Path.{_≡_}
 use mathlib.Core.Bool.{Bool, cond, _&&_}
 use mathlib.Core.List.{List}
@@ -9,12 +10,12 @@ use lib.IntN.{ℤ, negℤ, _+ℤ_, _-ℤ_}
 use lib.ListN.{getD}
 use Rattle.integers.specs.Parts.{floorDiv}
 use Rattle.integers.specs.Lists.{mapIndexed}
-use Rattle.stage.specs.Settings.{Depths, settingsOf}
+use Rattle.stage.specs.Settings.{Depths, Form, settingsOf}
 use Rattle.stage.specs.Planes.{Planes, triple}
 use Rattle.stage.specs.Filter.{filtered}
-use Rattle.stage.specs.Transform.{transformed, untransformed}
+use Rattle.stage.specs.Transform.{kept, transformed, untransformed}
 
-module _ (w h : ℕ) (φ : List ℕ) where
+module _ (keep : ℤ → ℤ) (w h : ℕ) (φ : List ℕ) where
   abbrev d : ℕ → List ℤ → ℕ → ℤ
   d k a i = filtered w h (getD φ k 0) a i
 
@@ -23,7 +24,7 @@ module _ (w h : ℕ) (φ : List ℕ) where
 
   -- Plane a after a step that changes its samples by f; 02: "a step whose places are all null leaves its plane unchanged, both ways".
   abbrev lifted : (allNull : Bool) (a : List ℤ) (f : ℕ → ℤ → ℤ) → List ℤ
-  lifted allNull a f = cond allNull a (mapIndexed f 0 a)
+  lifted allNull a f = cond allNull a (mapIndexed (λ i x. keep (f i x)) 0 a)
 
   abbrev pub rct : Planes → Planes
   rct p =
@@ -70,10 +71,12 @@ module _ (w h : ℕ) (φ : List ℕ) where
       let r = lifted (null 1) (q .c1) (λ i x. x +ℤ floorDiv (d 1 (q .c2) i) 2) in
       triple r (lifted (null 0) (q .c2) (λ i x. negℤ x +ℤ d 0 r i)) (lifted (null 2) (q .c3) (λ i x. x +ℤ d 2 (q .c1) i))
 
--- transform t, at any size w by h and any depths, is the equations f, and back it is g
-pub record Equations (t : ℕ) (f g : ℕ → ℕ → List ℕ → Planes → Planes) : Type 0 where
-  pub there : (w h : ℕ) (depths : Depths) (φ : List ℕ) (p : Planes) → transformed (settingsOf w h depths t) φ p ≡ f w h φ p
-  pub back : (w h : ℕ) (depths : Depths) (φ : List ℕ) (q : Planes) → untransformed (settingsOf w h depths t) φ q ≡ g w h φ q
+-- transform t, in both forms, at any size w by h and any depths, is the equations f, and back it is g
+pub record Equations (t : ℕ) (f g : (ℤ → ℤ) → ℕ → ℕ → List ℕ → Planes → Planes) : Type 0 where
+  pub there : (κ : Form) (w h : ℕ) (d : Depths) (φ : List ℕ) (p : Planes)
+      → transformed κ (settingsOf w h d t) φ p ≡ f (kept κ (d .c1)) w h φ p
+  pub back : (κ : Form) (w h : ℕ) (d : Depths) (φ : List ℕ) (q : Planes)
+      → untransformed κ (settingsOf w h d t) φ q ≡ g (kept κ (d .c1)) w h φ q
 
 abbrev pub EquationsHold : Type 0
 EquationsHold = Equations 0 rct rctBack × Equations 1 ycocg ycocgBack × Equations 2 rdgdb rdgdbBack × Equations 3 ldgeb ldgebBack

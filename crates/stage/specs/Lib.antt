@@ -16,10 +16,12 @@ pub mod Cases
 pub mod FilterCases
 pub mod TransformCases
 pub mod DepthCases
+pub mod WrappedCases
 pub mod SearchCases
 pub mod PixmapCases
 pub mod Equations
 pub mod Demand3
+pub mod WrappedForms
 pub mod NullSteps
 pub mod Theorems
 pub mod WindowSums

@@ -8,7 +8,7 @@ use lib.IntN.{ℤ}
 pub use Rattle.stage.specs.declared.Range.{Range}
 use Rattle.integers.specs.Parts.{In}
 use Rattle.integers.specs.Lists.{AllIn, allWithin}
-use Rattle.stage.specs.Settings.{Settings}
+use Rattle.stage.specs.Settings.{Settings, Form, Plain, Wrapped}
 use Rattle.stage.specs.Planes.{Plane, Triple, Planes, triple, get, put}
 use Rattle.stage.specs.Steps.{Setup, Step, reversed, Term, Lifting, add, subtract, negate, _ᵈ_, _⊕_, _/2, _/4, steps}
 
@@ -64,7 +64,12 @@ sampleRanges s = triple (sampleRange (s .depths .c1)) (sampleRange (s .depths .c
 abbrev pub finishedRanges : Settings → Triple Range
 finishedRanges s = ranges (steps (s .transform)) (sampleRanges s)
 
--- 01's table of them, a row for each transform: M, H and q are 2^b − 1, 2^(b−1) and 2^(b−2) where each plane has depth b
+-- in a form: where results are wrapped, "0 to M as every range" (02, request 9)
+abbrev pub formRanges : Form → Settings → Triple Range
+formRanges Plain s = finishedRanges s
+formRanges Wrapped s = sampleRanges s
+
+-- 01's table of the ranges of finished planes, a row for each transform: M, H and q are 2^b − 1, 2^(b−1) and 2^(b−2) where each plane has depth b
 abbrev pub rangeRow : (l1 h1 l2 h2 l3 h3 : ℕ) → Triple Range
 rangeRow l1 h1 l2 h2 l3 h3 =
     triple (record { below = l1; above = h1 }) (record { below = l2; above = h2 }) (record { below = l3; above = h3 })

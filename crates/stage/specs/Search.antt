@@ -7,7 +7,7 @@ use lib.Dec.{ltb, leb}
 use lib.IntN.{pos}
 use lib.ListN.{length, getD, set, replicate}
 use Rattle.stage.specs.Answers.{Test, _else_, Outcome, outcome, between}
-use Rattle.stage.specs.Settings.{Settings, Depths, settingsOf, depthsAllowed, pixels}
+use Rattle.stage.specs.Settings.{Settings, Depths, Plain, settingsOf, depthsAllowed, pixels}
 use Rattle.stage.specs.Planes.{Triple, Planes, mapTriple}
 use Rattle.stage.specs.Steps.{steps, places}
 use Rattle.stage.specs.Ranges.{widest}
@@ -35,9 +35,9 @@ module _ (e : List ℕ → ℕ) where
   unfoldable pub searched : (n count : ℕ) → List ℕ
   searched n count = rounds n count (replicate n 0)
 
--- the estimate of picture p under choices φ
+-- The estimate of picture p under choices φ. "Searches, estimates .. keep to the unwrapped forms" (02, request 9).
 unfoldable pub choicesEstimate : Settings → Planes → List ℕ → ℕ
-choicesEstimate s p φ = pictureEstimate (s .width) (transformed s φ p)
+choicesEstimate s p φ = pictureEstimate (s .width) (transformed Plain s φ p)
 
 -- what both calls answer: the estimate, and N
 pub record Estimated : Type 0 where
@@ -78,7 +78,7 @@ clearedScratch m = record { trials = mapTriple (cleared (pos 0)) (m .trials); co
 
 -- The tests of both calls, up to 9; l has the lengths of the picture's planes, trials those of the trial planes.
 abbrev pub scratchTests : (s : Settings) (choices : Bool) (l trials : Triple ℕ) (counters : ℕ) → List Test
-scratchTests s choices l trials counters = settingsTests s choices l ++ (scratchFits s trials counters else 9) ∷ []
+scratchTests s choices l trials counters = settingsTests Plain s choices l ++ (scratchFits s trials counters else 9) ∷ []
 
 module _ (s : Settings) (p : Planes) where
   abbrev pub estimated : List ℕ → Estimated

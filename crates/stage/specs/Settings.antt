@@ -1,12 +1,16 @@
 -- A run's settings: a picture's width, height and depths, and the number of its transform (01, "Planes and steps"; 02, request 7: "The
 -- picture's description holds three depths"). The calls are lent them as numbers and test them. Letters, where a file's head says nothing
--- else: s stands for the settings, d for the depths, and w, h, b, t for width, height, a depth and the transform by themselves; φ for the
--- choices, one filter for each place; p for planes that a step or a call is given, q for planes that a transform has finished; c for one of
--- the three planes, a for its samples, i for a sample's index, and k for a place's number.
-use mathlib.Core.Bool.{Bool, _&&_}
+-- else: s stands for the settings, d for the depths, and w, h, b, t for width, height, a depth and the transform by themselves; κ for the
+-- form, which says how a step's result is kept; φ for the choices, one filter for each place; p for planes that a step or a call is given,
+-- q for planes that a transform has finished; c for one of the three planes, a for its samples, i for a sample's index, and k for a place's
+-- number.
+use mathlib.Core.Bool.{Bool, true, _&&_}
 use Prim.Native.Nat.{ℕ, _*_, _≤_}
+use lib.Dec.{eqb}
 pub use Rattle.stage.specs.declared.Settings.{Settings}
 pub use Rattle.stage.specs.declared.Depths.{Depths}
+pub use Rattle.stage.specs.declared.Form.{Form}
+pub use Rattle.stage.specs.declared.Form.the-variants.{Plain, Wrapped}
 use Rattle.stage.specs.Answers.{between}
 use Rattle.stage.specs.Planes.{Plane, C1, C2, C3}
 
@@ -32,6 +36,12 @@ pixels s = s .width * s .height
 -- "three depths, each 2 to 16", as a test
 abbrev pub depthsAllowed : Depths → Bool
 depthsAllowed d = between 2 16 (d .c1) && (between 2 16 (d .c2) && between 2 16 (d .c3))
+
+-- 02, request 9: "Add a wrapped form of each transform, beside the present ones", which are the plain forms here. "16 if the three depths
+-- differ", as a test.
+abbrev pub depthsSuit : Form → Depths → Bool
+depthsSuit Plain d = true
+depthsSuit Wrapped d = eqb (d .c1) (d .c2) && eqb (d .c2) (d .c3)
 
 -- no depth above 16, as code that computes with depths asks it
 pub record UpTo16 (d : Depths) : Type 0 where

@@ -71,8 +71,8 @@ abbrev pub places : List Step → ℕ
 places [] = 0
 places (s ∷ l) = termPlaces (s .term) + places l
 
--- What the steps run with. A run has one filter a place, skips null steps and keeps every result as it is (`setup`, Transform.antt).
--- What is free beyond that leaves room for filters that change down the picture and for results kept to the depth's bits.
+-- What the steps run with. A run has one filter a place, skips null steps and keeps results as its form says (`setup`, Transform.antt).
+-- What is free beyond that leaves room for filters that change down the picture.
 pub record Setup : Type 0 where
   pub width : ℕ
   pub height : ℕ
@@ -80,7 +80,7 @@ pub record Setup : Type 0 where
   pub filter : (k i : ℕ) → ℕ
   -- whether null steps are skipped (02, request 1: "a step whose places are all null leaves its plane unchanged, both ways")
   pub skips : Bool
-  -- not 01's: how a step's result is kept
+  -- how a step's result is kept (02, request 9: "filters, halves and quarters use that number")
   pub keep : ℤ → ℤ
 
 -- the term's value at index i

@@ -9,7 +9,7 @@ use lib.IntN.{ℤ}
 use lib.ListN.{take, drop, set, getD}
 use Rattle.integers.specs.Parts.{In}
 use Rattle.integers.specs.Lists.{AllIn}
-use Rattle.stage.specs.Settings.{Settings, each, depthAt, Allowed}
+use Rattle.stage.specs.Settings.{Settings, Plain, each, depthAt, Allowed}
 use Rattle.stage.specs.Planes.{Plane, Planes}
 use Rattle.stage.specs.Filter.{mean, filtered}
 use Rattle.stage.specs.Steps.{Setup, steps, places, run, undo, YCoCg-R}
@@ -21,7 +21,7 @@ use Rattle.stage.specs.Search.{countersNeeded, countersCall, winner, sea
 -- Running the steps and undoing them cancel, both ways, on any three planes of whole numbers.
 abbrev pub StepsCancel : Type 0
 StepsCancel =
-    (s : Settings) (φ : List ℕ) (p : Planes) → (untransformed s φ (transformed s φ p) ≡ p) × (transformed s φ (untransformed s φ p) ≡ p)
+    (s : Settings) (φ : List ℕ) (p : Planes) → (untransformed Plain s φ (transformed Plain s φ p) ≡ p) × (transformed Plain s φ (untransformed Plain s φ p) ≡ p)
 
 -- A filter keeps a plane's range: the mean for every centre weight and at every border, and so each of the filters.
 abbrev pub MeanKeepsRange : Type 0
@@ -74,12 +74,12 @@ StepsKeepRanges =
 abbrev pub SecondStepSamples : Type 0
 SecondStepSamples =
     (s : Settings) (b : ℕ) (φ : List ℕ) (p : Planes) → 2 ≤ b → s .depths ≡ each b → Picture s p
-    → AllIn (2 ^ (b - 1)) (3 * 2 ^ (b - 1) - 2) (run (setup s φ) (take 2 YCoCg-R) p .c3)
+    → AllIn (2 ^ (b - 1)) (3 * 2 ^ (b - 1) - 2) (run (setup Plain s φ) (take 2 YCoCg-R) p .c3)
 
 -- Demand 3's "each of their numbers lies within the range stated for its plane", with the ranges as 01 states them.
 abbrev pub WithinTable : Type 0
 WithinTable =
-    (s : Settings) (b : ℕ) (φ : List ℕ) (p q : Planes) → 2 ≤ b → s .depths ≡ each b → GoesTo s φ p q
+    (s : Settings) (b : ℕ) (φ : List ℕ) (p q : Planes) → 2 ≤ b → s .depths ≡ each b → GoesTo Plain s φ p q
     → InRanges (getD (depthTable b) (s .transform) (sampleRanges s)) q
 
 -- Every number met lies within ±2^19: before and after each step of a picture's way forward, and of the way back of planes that

@@ -1,14 +1,17 @@
--- The calls `forward` and `inverse`: every refusal in its order, else the planes (01, "Planes and steps", "Who can cause which refusal").
+-- The calls `forward` and `inverse` of both forms: every refusal in its order, else the planes (01, "Planes and steps", "Who can cause
+-- which refusal"; 02, request 9).
 -- s stands for the settings, φ for the choices, p for planes lent to the forward call and q for those lent to the inverse, l for the
 -- lengths of three planes, f for a filter's number, n for a number of choices or samples.
 use mathlib.Core.Path.{_≡_}
 use mathlib.Core.Bool.{Bool, true, _&&_}
 use mathlib.Core.List.{List, [], _∷_, _++_}
-use Prim.Native.Nat.{ℕ}
+use Prim.Native.Nat.{ℕ, _^_}
 use lib.Dec.{leb, eqb}
+use lib.IntN.{ℤ}
 use lib.ListN.{length, getD}
+use Rattle.integers.specs.Parts.{floorMod}
 use Rattle.stage.specs.Answers.{Test, _else_, Outcome, outcome, sized}
-use Rattle.stage.specs.Settings.{Settings, depthsAllowed, pixels}
+use Rattle.stage.specs.Settings.{Settings, Form, Plain, Wrapped, depthsAllowed, depthsSuit, pixels}
 use Rattle.stage.specs.Planes.{Plane, Triple, Planes, get, mapTriple}
 use Rattle.stage.specs.Steps.{Setup, steps, places, run, undo}
 use Rattle.stage.specs.Ranges.{sampleRanges, InRanges, withinRanges}
@@ -32,26 +35,32 @@ abbrev pub allEqual : ℕ → Triple ℕ → Bool
 allEqual n l = eqb (l .c1) n && (eqb (l .c2) n && eqb (l .c3) n)
 
 -- What the calling program can cause, in order. The calls differ in what they ask of the choices; l has the planes' lengths.
-abbrev pub settingsTests : (s : Settings) (choices : Bool) (l : Triple ℕ) → List Test
-settingsTests s choices l =
+abbrev pub settingsTests : (κ : Form) (s : Settings) (choices : Bool) (l : Triple ℕ) → List Test
+settingsTests κ s choices l =
     (sized (s .width) (s .height) else 2)
     ∷ (depthsAllowed (s .depths) else 5)
+    ∷ (depthsSuit κ (s .depths) else 16)
     ∷ (leb (s .transform) 3 else 6)
     ∷ (choices else 7)
     ∷ (allEqual (pixels s) l else 8)
     ∷ []
 
--- One filter for each place, results kept as they are, and "a step whose places are all null leaves its plane unchanged, both ways" (02,
--- request 1).
-abbrev pub setup : Settings → List ℕ → Setup
-setup s φ = record { width = s .width; height = s .height; filter = λ k i. getD φ k 0; skips = true; keep = λ z. z }
+-- A step's result as a form keeps it at depth b: as it is; "modulo 2^b, as 0 to M" (02, request 9).
+abbrev pub kept : Form → (b : ℕ) → ℤ → ℤ
+kept Plain b z = z
+kept Wrapped b z = floorMod z (2 ^ b)
+
+-- One filter for each place; results kept as the form keeps them, at the depth that all planes have where it wraps; and "a step whose
+-- places are all null leaves its plane unchanged, both ways" (02, request 1).
+abbrev pub setup : Form → Settings → List ℕ → Setup
+setup κ s φ = record { width = s .width; height = s .height; filter = λ k i. getD φ k 0; skips = true; keep = kept κ (s .depths .c1) }
 
 -- the planes that a picture goes to, and the planes with all steps undone
-unfoldable pub transformed : Settings → List ℕ → Planes → Planes
-transformed s φ p = run (setup s φ) (steps (s .transform)) p
+unfoldable pub transformed : Form → Settings → List ℕ → Planes → Planes
+transformed κ s φ p = run (setup κ s φ) (steps (s .transform)) p
 
-unfoldable pub untransformed : Settings → List ℕ → Planes → Planes
-untransformed s φ q = undo (setup s φ) (steps (s .transform)) q
+unfoldable pub untransformed : Form → Settings → List ℕ → Planes → Planes
+untransformed κ s φ q = undo (setup κ s φ) (steps (s .transform)) q
 
 -- three planes of the picture's size
 abbrev pub HasSize : Settings → Planes → Type 0
@@ -65,10 +74,19 @@ pub record Picture (s : Settings) (p : Planes) : Type 0 where
 abbrev pub isPicture : Settings → Planes → Bool
 isPicture s p = withinRanges (sampleRanges s) p
 
-unfoldable pub forward : Settings → List ℕ → Planes → Outcome (Unit {0}) Planes
-forward s φ p = outcome (settingsTests s (choicesFit s φ) (lengths p) ++ (isPicture s p else 11) ∷ []) tt (transformed s φ p) p
+unfoldable pub forward : Form → Settings → List ℕ → Planes → Outcome (Unit {0}) Planes
+forward κ s φ p = outcome (settingsTests κ s (choicesFit s φ) (lengths p) ++ (isPicture s p else 11) ∷ []) tt (transformed κ s φ p) p
 
--- The inverse accepts planes whose steps, undone, leave a picture; 12 for all others.
-unfoldable pub inverse : Settings → List ℕ → Planes → Outcome (Unit {0}) Planes
-inverse s φ q =
-    outcome (settingsTests s (choicesFit s φ) (lengths q) ++ (isPicture s (untransformed s φ q) else 12) ∷ []) tt (untransformed s φ q) q
+-- The inverse accepts planes whose steps, undone, leave a picture; 12 for all others. In the wrapped forms it accepts every three planes of
+-- 0 to M (02, request 9: "11 for a sample outside 0 to M, either way").
+abbrev pub reachable : Form → Settings → List ℕ → Planes → Bool
+reachable Plain s φ q = isPicture s (untransformed Plain s φ q)
+reachable Wrapped s φ q = isPicture s q
+
+abbrev pub unreachable : Form → ℕ
+unreachable Plain = 12
+unreachable Wrapped = 11
+
+unfoldable pub inverse : Form → Settings → List ℕ → Planes → Outcome (Unit {0}) Planes
+inverse κ s φ q =
+    outcome (settingsTests κ s (choicesFit s φ) (lengths q) ++ (reachable κ s φ q else unreachable κ) ∷ []) tt (untransformed κ s φ q) q

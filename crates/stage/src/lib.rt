@@ -3,7 +3,7 @@
 ghost use mathlib.Core.Path.{_≡_};
 ghost use Rattle.stage.specs.Answers.{between, sized};
 ghost use Rattle.stage.specs.Planes.{triple, samePlane};
-ghost use Rattle.stage.specs.Settings.{each, depthsAllowed};
+ghost use Rattle.stage.specs.Settings.{each, depthsAllowed, depthsSuit};
 ghost use Rattle.stage.specs.Transform.{allEqual};
 
 pub enum Plane {
@@ -60,6 +60,12 @@ pub struct Settings {
     pub transform: u32,
 }
 
+// The form of a transform: what a step makes of a sample is kept as it is, or wrapped to the depth's bits.
+pub enum Form {
+    Plain,
+    Wrapped,
+}
+
 // −below to above
 pub struct Range {
     pub below: u32,
@@ -89,6 +95,16 @@ pub fn are_depths(d: Depths) -> bool
     ensures { λ r. ⌜ r ≡ depthsAllowed d ⌝ }
 {
     ((2 <= d.c1) & (d.c1 <= 16)) & (((2 <= d.c2) & (d.c2 <= 16)) & ((2 <= d.c3) & (d.c3 <= 16)))
+}
+
+// Whether a form takes the depths: wrapped to one depth's bits, all three are that depth.
+pub fn depths_suit(form: Form, d: Depths) -> bool
+    ensures { λ r. ⌜ r ≡ depthsSuit form d ⌝ }
+{
+    match form {
+        Form::Plain => true,
+        Form::Wrapped => (d.c1 == d.c2) & (d.c2 == d.c3),
+    }
 }
 
 // Whether three lengths are n.

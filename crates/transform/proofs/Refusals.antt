@@ -22,6 +22,6 @@ pub choice-within : (l : List ℕ) (i r : ℕ) → i < length l → r ≡ getD l
 choice-within l i r h e g = next-choice l i h ∙ rw (le-leb (getD l i 0) 12 (rw e at g))
 
 -- the tests as the code made them
-pub first-same : {a a' b b' e e' : Bool} (c d : Bool) → a ≡ a' → b ≡ b' → e ≡ e'
-    → refusal ((a else 2) ∷ (b else 5) ∷ (c else 6) ∷ (d else 7) ∷ (e else 8) ∷ []) ≡ refusal ((a' else 2) ∷ (b' else 5) ∷ (c else 6) ∷ (d else 7) ∷ (e' else 8) ∷ [])
-first-same c d p q r = rw (p, q, r)
+pub first-same : {a a' b b' s s' e e' : Bool} (c d : Bool) → a ≡ a' → b ≡ b' → s ≡ s' → e ≡ e'
+    → refusal ((a else 2) ∷ (b else 5) ∷ (s else 16) ∷ (c else 6) ∷ (d else 7) ∷ (e else 8) ∷ []) ≡ refusal ((a' else 2) ∷ (b' else 5) ∷ (s' else 16) ∷ (c else 6) ∷ (d else 7) ∷ (e' else 8) ∷ [])
+first-same c d p q r t = rw (p, q, r, t)

@@ -1,18 +1,26 @@
 -- Demand 3 and the two ways round, from the calls' promises.
 use mathlib.Core.Path.{_≡_, refl, sym, ap, _∙_, subst}
+use mathlib.Core.Logic.{_↔_}
 use mathlib.Core.List.{List}
 use Prim.Native.Nat.{ℕ}
 use native.Mathlib.Omega.{arith}
+use lib.Dec.{T}
 use Rattle.stage.specs.declared.Answer.{Answer}
 use Rattle.stage.specs.declared.Answer.the-variants.{Done, Refused}
 use Rattle.stage.specs.declared.Settings.{Settings}
+use Rattle.stage.specs.declared.Form.{Form}
+use Rattle.stage.specs.declared.Form.the-variants.{Wrapped}
 use Rattle.stage.specs.Answers.{done, refused, Outcome, replyOf, outcomeOf}
+use Rattle.stage.specs.Settings.{depthsSuit, Allowed}
 use Rattle.stage.specs.Planes.{Planes}
-use Rattle.stage.specs.Transform.{inverse}
+use Rattle.stage.specs.Ranges.{sampleRanges, InRanges}
+use Rattle.stage.specs.Transform.{choicesFit, transformed, untransformed, forward, inverse}
 use Rattle.stage.specs.Demand3.{GoesTo, accepted, Demand3}
-use Rattle.stage.proofs.Demand3.{demand3, calls-inverse}
+use Rattle.stage.proofs.Forms.{goes-within}
+use Rattle.stage.proofs.Demand3.{withinRanges-iff, leads, forward-iff, inverse-iff, demand3, calls-inverse}
+use Rattle.stage.proofs.WrappedForms.{wrapped-refuses-outside}
 use Rattle.stage.proofs.NullSteps.{nulls-leave-pictures}
-use Rattle.transform.specs.Calls.{ForwardThenInverse, InverseThenForward, CallsDemand3, CallsMeetDemand3, CallsLeaveNulls}
+use Rattle.transform.specs.Calls.{ForwardThenInverse, InverseThenForward, CallsDemand3, CallsMeetDemand3, CallsLeaveNulls, CallsWrapped, CallsNeverWiden}
 
 done-is : (r : Answer) → replyOf r ≡ done tt → r ≡ Done
 done-is Done e = refl
@@ -31,22 +39,22 @@ module _ (r : Answer) (u : Planes) where
   refusal-is {n} e = (refused-is r n (ap (λ (o : Outcome (Unit {0}) Planes). o .reply) e), ap (λ (o : Outcome (Unit {0}) Planes). o .memory) e)
 
 pub forward-then-inverse : ForwardThenInverse
-forward-then-inverse s φ p q u r f i = accepted-is r u (i ∙ calls-inverse s φ p q .0 (sym f))
+forward-then-inverse κ s φ p q u r f i = accepted-is r u (i ∙ calls-inverse κ s φ p q .0 (sym f))
 
 pub inverse-then-forward : InverseThenForward
-inverse-then-forward s φ q p u r i f = accepted-is r u (f ∙ calls-inverse s φ p q .1 (sym i))
+inverse-then-forward κ s φ q p u r i f = accepted-is r u (f ∙ calls-inverse κ s φ p q .1 (sym i))
 
-module _ (s : Settings) (φ : List ℕ) (q : Planes) (d : Demand3 s φ q) (r : Answer) (u : Planes) (e : outcomeOf r u ≡ inverse s φ q) where
-  goes : r ≡ Done → (p : Planes) × GoesTo s φ p q
+module _ (κ : Form) (s : Settings) (φ : List ℕ) (q : Planes) (d : Demand3 κ s φ q) (r : Answer) (u : Planes) (e : outcomeOf r u ≡ inverse κ s φ q) where
+  goes : r ≡ Done → (p : Planes) × GoesTo κ s φ p q
   goes i = d .accepts .0 (sym (ap (λ (o : Outcome (Unit {0}) Planes). o .reply) e) ∙ ap replyOf i)
 
-  leaves : (p : Planes) → GoesTo s φ p q → (r ≡ Done) × (u ≡ p)
+  leaves : (p : Planes) → GoesTo κ s φ p q → (r ≡ Done) × (u ≡ p)
   leaves p g = accepted-is r u (e ∙ d .leaves p g)
 
-  picture : r ≡ Done → GoesTo s φ u q
-  picture i = let g = goes i in subst (λ (p : Planes). GoesTo s φ p q) (sym (leaves (g .0) (g .1) .1)) (g .1)
+  picture : r ≡ Done → GoesTo κ s φ u q
+  picture i = let g = goes i in subst (λ (p : Planes). GoesTo κ s φ p q) (sym (leaves (g .0) (g .1) .1)) (g .1)
 
-  meets : CallsDemand3 s φ q r u
+  meets : CallsDemand3 κ s φ q r u
   meets = record {
     accepts = (goes, λ g. leaves (g .0) (g .1) .0);
     picture = picture;
@@ -57,7 +65,33 @@ module _ (s : Settings) (φ : List ℕ) (q : Planes) (d : Demand3 s φ q) (r : A
   }
 
 pub calls-meet-demand3 : CallsMeetDemand3
-calls-meet-demand3 s φ a f q z r u e = meets s φ q (demand3 s φ (a, f) q z) r u e
+calls-meet-demand3 κ s φ a d f q z r u e = meets κ s φ q (demand3 κ s φ ((a, d), f) q z) r u e
 
 pub calls-leave-nulls : CallsLeaveNulls
-calls-leave-nulls s p a h r q = let n = nulls-leave-pictures s p a h in (λ f. accepted-is r q (f ∙ n .there), λ i. accepted-is r q (i ∙ n .back))
+calls-leave-nulls κ s p a d h r q = let n = nulls-leave-pictures κ s p a d h in (λ f. accepted-is r q (f ∙ n .there), λ i. accepted-is r q (i ∙ n .back))
+
+-- ---- the wrapped calls
+-- a call o, lent p, that refuses p with 11 exactly where it is outside 0 to M, and otherwise leaves u, within 0 to M
+module _ (s : Settings) {p u : Planes} {o : Outcome (Unit {0}) Planes} (refuses : (o ≡ record { reply = refused 11; memory = p }) ↔ (InRanges (sampleRanges s) p → ⊥))
+    (accepts : InRanges (sampleRanges s) p → o ≡ accepted u) (r : Answer) (q : Planes) (e : outcomeOf r q ≡ o) where
+  wrapped-refuses : (r ≡ Refused 11) ↔ (InRanges (sampleRanges s) p → ⊥)
+  wrapped-refuses = (λ i h. let z : _≡_ {A = ℕ} 0 1 = let d = accepted-is r q (e ∙ accepts h) .0 in cc in omega arith, λ f. refusal-is r q (e ∙ refuses .1 f) .0)
+
+  wrapped-done : InRanges (sampleRanges s) u → InRanges (sampleRanges s) p → (r ≡ Done) × InRanges (sampleRanges s) q
+  wrapped-done i h = let d = accepted-is r q (e ∙ accepts h) in (d .0, subst (InRanges (sampleRanges s)) (sym (d .1)) i)
+
+pub calls-never-widen : CallsNeverWiden
+calls-never-widen s φ a d f p z r q =
+    let outside = wrapped-refuses-outside s φ a d f p z in
+    let fit : (Allowed s × T (depthsSuit Wrapped (s .depths))) × T (choicesFit s φ) = ((a, d), f) in
+    let there : InRanges (sampleRanges s) p → forward Wrapped s φ p ≡ accepted (transformed Wrapped s φ p) =
+    λ i. forward-iff Wrapped s φ p _ .1 (fit, record { picture = record { size = z; samples = i }; goes = refl }) in
+    let one : InRanges (sampleRanges s) p → GoesTo Wrapped s φ (untransformed Wrapped s φ p) p =
+    λ i. leads Wrapped s φ p d z (withinRanges-iff (sampleRanges s) p .1 i) in
+    let back : InRanges (sampleRanges s) p → inverse Wrapped s φ p ≡ accepted (untransformed Wrapped s φ p) = λ i. inverse-iff Wrapped s φ _ p .1 (fit, one i) in
+    record {
+      forward-refuses = wrapped-refuses s (outside .there) there r q;
+      inverse-refuses = wrapped-refuses s (outside .back) back r q;
+      forward-done = λ e i. wrapped-done s (outside .there) there r q e (goes-within Wrapped s φ p _ d (record { picture = record { size = z; samples = i }; goes = refl })) i;
+      inverse-done = λ e i. wrapped-done s (outside .back) back r q e (one i .picture .samples) i;
+    }

@@ -11,6 +11,7 @@ use lib.Seq.{ext-getD}
 use Rattle.integers.specs.Slices.{slice}
 use Rattle.integers.proofs.Slices.{slice-front}
 use Rattle.stage.specs.declared.Settings.{Settings}
+use Rattle.stage.specs.declared.Form.the-variants.{Plain}
 use Rattle.stage.specs.Planes.{Planes}
 use Rattle.stage.specs.Steps.{Step, steps, places, run}
 use Rattle.stage.specs.Ranges.{widest}
@@ -54,16 +55,16 @@ module _ (s : Settings) (p : Planes) where
 
   -- the planes before step j
   abbrev pub before : List ℕ → ℕ → Planes
-  before φ j = run (setup s φ) (slice l 0 j) p
+  before φ j = run (setup Plain s φ) (slice l 0 j) p
 
-  pub before-next : (φ : List ℕ) (i j : ℕ) (q r : Planes) → i ≤ j → q ≡ before φ i → r ≡ run (setup s φ) (slice l i j) q → r ≡ before φ j
-  before-next φ i j q r h e f = f ∙ ap (run (setup s φ) (slice l i j)) e ∙ sym (run-split (setup s φ) l 0 i j p (omega arith) h)
+  pub before-next : (φ : List ℕ) (i j : ℕ) (q r : Planes) → i ≤ j → q ≡ before φ i → r ≡ run (setup Plain s φ) (slice l i j) q → r ≡ before φ j
+  before-next φ i j q r h e f = f ∙ ap (run (setup Plain s φ) (slice l i j)) e ∙ sym (run-split (setup Plain s φ) l 0 i j p (omega arith) h)
 
   -- the estimate of the choices that the planes were run with
   pub rest-estimate : (φ : List ℕ) (j : ℕ) (q : Planes) → q ≡ before φ j → trialEstimate s j q φ ≡ estimates φ
   unfolding trialEstimate choicesEstimate transformed
   rest-estimate φ j q e =
-      let σ = setup s φ in
+      let σ = setup Plain s φ in
       ap (pictureEstimate (s .width)) (ap (run σ (drop j l)) (e ∙ ap (λ (m : List Step). run σ m p) (slice-front l j)) ∙ run-rest σ j l p)
 
   -- another filter at the place of step j
@@ -127,7 +128,7 @@ pub trial-first : (s : Settings) (p : Planes) (φ : List ℕ) → trialEstimate 
 unfolding trialEstimate choicesEstimate transformed
 trial-first s p φ = refl
 
-pub all-steps : (s : Settings) (u : Bool) (p : Planes) (φ : List ℕ) → cond u p (run (setup s φ) (drop 0 (steps (s .transform))) p) ≡ cond u p (transformed s φ p)
+pub all-steps : (s : Settings) (u : Bool) (p : Planes) (φ : List ℕ) → cond u p (run (setup Plain s φ) (drop 0 (steps (s .transform))) p) ≡ cond u p (transformed Plain s φ p)
 unfolding transformed
 all-steps s u p φ = refl
 

@@ -13,6 +13,7 @@ use Rattle.integers.specs.Slices.{slice}
 use Rattle.integers.proofs.Booleans.{false-fails}
 use Rattle.integers.proofs.Slices.{slice-none, slice-back}
 use Rattle.stage.specs.declared.Settings.{Settings}
+use Rattle.stage.specs.declared.Form.the-variants.{Plain}
 use Rattle.stage.specs.declared.Plane.{Plane}
 use Rattle.stage.specs.declared.Plane.the-variants.{C1, C2, C3}
 use Rattle.stage.specs.Settings.{depthAt, Allowed}
@@ -40,10 +41,10 @@ or-false false b e = (refl, e)
 -- ---- a place's filter
 module _ (s : Settings) (φ : List ℕ) (k f : ℕ) where
   abbrev σ : Setup
-  σ = setup s φ
+  σ = setup Plain s φ
 
   abbrev τ : Setup
-  τ = setup s (set φ k f)
+  τ = setup Plain s (set φ k f)
 
   -- a term without the place does not depend on it
   same-places : (t : Term) → hasPlace t k ≡ false → (i : ℕ) → SameFilters τ σ t i
@@ -105,31 +106,31 @@ module _ (w : ℕ) (l : List Step) (p q : Planes) (same : (c : Plane) → change
 
 -- the estimates of a trial add up
 pub trial-sum : (s : Settings) (k n : ℕ) (φ : List ℕ) (q p : Planes) {b : Triple Bool} {base e : ℕ} → n ≡ length (steps (s .transform))
-    → p ≡ run (setup s φ) (slice (steps (s .transform)) k n) q → b ≡ changed (drop k (steps (s .transform))) → base ≡ baseEstimate s k q → e ≡ partEstimate (s .width) b p
+    → p ≡ run (setup Plain s φ) (slice (steps (s .transform)) k n) q → b ≡ changed (drop k (steps (s .transform))) → base ≡ baseEstimate s k q → e ≡ partEstimate (s .width) b p
     → base + e ≡ trialEstimate s k q φ
 unfolding trialEstimate
 trial-sum s k n φ q p {b} {base} {e} all ran set-is base-is e-is =
     let w = s .width in
     let l = drop k (steps (s .transform)) in
-    let r : p ≡ run (setup s φ) l q = ran ∙ ap (λ (m : List Step). run (setup s φ) m q) (slice-back (steps (s .transform)) k n all) in
-    let x : e ≡ partEstimate w (changed l) (run (setup s φ) l q) = e-is ∙ ap (λ (c : Triple Bool). partEstimate w c p) set-is ∙ ap (partEstimate w (changed l)) r in
-    omega (arith, base-is, x, parts-estimate w l q (run (setup s φ) l q) (λ c. run-unchanged (setup s φ) l c q))
+    let r : p ≡ run (setup Plain s φ) l q = ran ∙ ap (λ (m : List Step). run (setup Plain s φ) m q) (slice-back (steps (s .transform)) k n all) in
+    let x : e ≡ partEstimate w (changed l) (run (setup Plain s φ) l q) = e-is ∙ ap (λ (c : Triple Bool). partEstimate w c p) set-is ∙ ap (partEstimate w (changed l)) r in
+    omega (arith, base-is, x, parts-estimate w l q (run (setup Plain s φ) l q) (λ c. run-unchanged (setup Plain s φ) l c q))
 
 -- ---- the steps from k on, run and undone, or only run
-module _ {s : Settings} {φ : List ℕ} {k n : ℕ} (fit : StepsFit s φ k n) (q : Planes) {p : Planes} (ran : p ≡ run (setup s φ) (slice (steps (s .transform)) k n) q) where
-  pub ready-left : ((c : Plane) → depthAt s c ≤ 16) → AtStep s k q → (u : Bool) {b : ℕ} → b ≡ cond u k n → UndoReady s φ b n p
+module _ {s : Settings} {φ : List ℕ} {k n : ℕ} (fit : StepsFit s φ k n) (q : Planes) {p : Planes} (ran : p ≡ run (setup Plain s φ) (slice (steps (s .transform)) k n) q) where
+  pub ready-left : ((c : Plane) → depthAt s c ≤ 16) → AtStep s k q → (u : Bool) {b : ℕ} → b ≡ cond u k n → UndoReady Plain s φ b n p
   ready-left deep z true e = rw e (ready-undo deep fit z ran)
   ready-left deep z false e = rw e (record {
-    fit = record { transform = fit .transform; order = omega arith; last = fit .last; choices = fit .choices };
+    fit = record { transform = fit .transform; depth = fit .depth; order = omega arith; last = fit .last; choices = fit .choices };
     before = λ i h g. absurd (omega arith);
   })
 
-  pub planes-left : n ≡ length (steps (s .transform)) → (u : Bool) {b : ℕ} {o : Planes} → b ≡ cond u k n → o ≡ undo (setup s φ) (slice (steps (s .transform)) b n) p
-      → o ≡ cond u q (run (setup s φ) (drop k (steps (s .transform))) q)
-  planes-left all true e h = h ∙ ap₂ (λ (i : ℕ) (r : Planes). undo (setup s φ) (slice (steps (s .transform)) i n) r) e ran ∙ slice-undone s φ k n q
+  pub planes-left : n ≡ length (steps (s .transform)) → (u : Bool) {b : ℕ} {o : Planes} → b ≡ cond u k n → o ≡ undo (setup Plain s φ) (slice (steps (s .transform)) b n) p
+      → o ≡ cond u q (run (setup Plain s φ) (drop k (steps (s .transform))) q)
+  planes-left all true e h = h ∙ ap₂ (λ (i : ℕ) (r : Planes). undo (setup Plain s φ) (slice (steps (s .transform)) i n) r) e ran ∙ slice-undone s φ k n q
   planes-left all false e h =
-      h ∙ ap (λ (m : List Step). undo (setup s φ) m p) (ap (λ (i : ℕ). slice (steps (s .transform)) i n) e ∙ slice-none (steps (s .transform)) n) ∙ ran
-      ∙ ap (λ (m : List Step). run (setup s φ) m q) (slice-back (steps (s .transform)) k n all)
+      h ∙ ap (λ (m : List Step). undo (setup Plain s φ) m p) (ap (λ (i : ℕ). slice (steps (s .transform)) i n) e ∙ slice-none (steps (s .transform)) n) ∙ ran
+      ∙ ap (λ (m : List Step). run (setup Plain s φ) m q) (slice-back (steps (s .transform)) k n all)
 
 -- ---- planes that stand before a step can be counted
 pub countable : {s : Settings} {k : ℕ} {q : Planes} → Allowed s → AtStep s k q → (c : Plane) → Countable (s .width) (widest s) (get q c)

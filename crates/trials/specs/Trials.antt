@@ -6,6 +6,7 @@ use Prim.Native.Nat.{ℕ, _+_, _≤_, _<_}
 use lib.Dec.{T, ltb}
 use lib.ListN.{length, drop, set}
 use Rattle.stage.specs.declared.Settings.{Settings}
+use Rattle.stage.specs.declared.Form.the-variants.{Plain}
 use Rattle.stage.specs.declared.Plane.{Plane}
 use Rattle.stage.specs.declared.Plane.the-variants.{C1, C2, C3}
 use Rattle.stage.specs.Settings.{Allowed}
@@ -44,7 +45,7 @@ baseEstimate s k q = partEstimate (s .width) (others (changed (drop k (steps (s 
 
 -- the estimate of choices φ, from planes q that stand before step k
 unfoldable pub trialEstimate : Settings → ℕ → Planes → List ℕ → ℕ
-trialEstimate s k q φ = pictureEstimate (s .width) (run (setup s φ) (drop k (steps (s .transform))) q)
+trialEstimate s k q φ = pictureEstimate (s .width) (run (setup Plain s φ) (drop k (steps (s .transform))) q)
 
 -- ---- what is asked and answered
 -- planes q that stand before step k, with counters l and the table of logarithms
@@ -81,7 +82,7 @@ pub record ChoicesReady (s : Settings) (k b : ℕ) (q : Planes) (φ l table : Li
 -- its estimate is answered; planes p are as they were if the steps from k on were undone, else with these run; the counters are zero again
 pub record TrialFound (s : Settings) (k : ℕ) (undone : Bool) (q : Planes) (φ : List ℕ) (r : ℕ) (p : Planes) (l : List ℕ) : Type 0 where
   pub estimate : r ≡ trialEstimate s k q φ
-  pub planes : p ≡ cond undone q (run (setup s φ) (drop k (steps (s .transform))) q)
+  pub planes : p ≡ cond undone q (run (setup Plain s φ) (drop k (steps (s .transform))) q)
   pub counters : Counters (widest s) l
 
 -- ---- places

@@ -8,14 +8,14 @@ use denote.Ref.{now}
 use lib.IntN.{ℤ}
 use Rattle.integers.proofs.Changes.{changed-as}
 use Rattle.stage.specs.Filter.{mean}
-use Rattle.kernel.specs.Pass.{applied}
+use Rattle.kernel.specs.Pass.{KeptPass, applied}
 use Rattle.kernel.proofs.Segments.{rows-segment, segment-rest, Progress, progress-none, progress-join}
 use Rattle.kernel.proofs.Windows.{filtered-mean}
 use Rattle.kernel.proofs.lift_means.Statement.{statement}
 use Rattle.kernel.proofs.lift_means.Tie as tie
 
 -- rows from to y − 1 are done
-record RowsDone (p w from to y : ℕ) (f : ℕ → ℤ) (before after : List ℤ) : Type 0 where
+record RowsDone (p : KeptPass) (w from to y : ℕ) (f : ℕ → ℤ) (before after : List ℤ) : Type 0 where
   most : y ≤ to
   done : Progress p f (from * w) (to * w) (y * w) before after
 

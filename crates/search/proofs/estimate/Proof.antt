@@ -42,7 +42,7 @@ decision : (r : tie.After-scratch-refusal) → let a = start r in let s = a .arg
     (r .scratch-refusal .result)
 decision r =
     let a = start r in
-    decides (tests a (fit a)) _ 11 _ _ _ (tt, (tt, (tt, (tt, (tt, (tt, (tt, tt))))))) _
+    decides (tests a (fit a)) _ 11 _ _ _ (tt, (tt, (tt, (tt, (tt, (tt, (tt, (tt, tt)))))))) _
     (r .scratch-refusal .ensures ∙ ap (λ (b : Bool). refusal (tests a b)) (r .before .choices-fit .ensures))
 
 past : (e : tie.Else1) → let a = start (e .before) in Passed (a .args .settings) (fit a) (planes a) (trials a) (now (a .args .counters))

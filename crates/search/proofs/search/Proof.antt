@@ -55,9 +55,9 @@ decision r =
     let f = i .before .scratch-refusal .result in
     let e : r .select2 .result ≡ cond (eqb f 0) (r .before .select .result) f = r .select2 .ensures in
     decides (searchTests (a .args .settings) (planes a) (a .args .rounds) (memory a)) _ 11 _ _ _
-    (tt, (tt, (tt, (tt, (tt, (tt, (tt, (tt, tt)))))))) _
+    (tt, (tt, (tt, (tt, (tt, (tt, (tt, (tt, (tt, tt))))))))) _
     (e ∙ ap₂ (λ (x y : ℕ). cond (eqb x 0) y x) n m
-    ∙ refusal-then (tests a (fit a)) (last a) (tt, (tt, (tt, (tt, (tt, (tt, tt)))))))
+    ∙ refusal-then (tests a (fit a)) (last a) (tt, (tt, (tt, (tt, (tt, (tt, (tt, tt))))))))
 
 past : (e : tie.Else1) → let a = start (e .before) in Passed (a .args .settings) (fit a) (planes a) (trials a) (now (a .args .counters))
 past e =

@@ -4,6 +4,7 @@ use mathlib.Core.Bool.{true}
 use denote.Ref.{now}
 use Rattle.integers.proofs.Booleans.{held, failed}
 use Rattle.stage.specs.declared.Answer.the-variants.{Refused}
+use Rattle.stage.specs.declared.Form.the-variants.{Plain}
 use Rattle.stage.specs.Answers.{outcomeOf}
 use Rattle.stage.specs.Planes.{Planes, triple}
 use Rattle.stage.specs.Ranges.{finishedRanges, withinRanges}
@@ -20,12 +21,12 @@ abbrev start : tie.After-refusal → tie.Start
 start r = r .before .before .before
 
 decision : (r : tie.After-refusal) → let a = start r in let s = a .args .settings in let φ = now (a .args .choices) in
-    Decides (tests s φ (planes a)) (isPicture s (untransformed s φ (planes a))) 12 (tt {0}) (untransformed s φ (planes a)) (planes a) (r .refusal .result)
+    Decides (tests Plain s φ (planes a)) (isPicture s (untransformed Plain s φ (planes a))) 12 (tt {0}) (untransformed Plain s φ (planes a)) (planes a) (r .refusal .result)
 decision r =
     let a = start r in
-    decided (a .args .settings) (now (a .args .choices)) (planes a) _ (r .before .choices-fit .ensures) (r .refusal .ensures) _ 12 tt _
+    decided Plain (a .args .settings) (now (a .args .choices)) (planes a) _ (r .before .choices-fit .ensures) (r .refusal .ensures) _ 12 tt _
 
-past : (e : tie.Else1) → let a = start (e .before) in Holds (tests (a .args .settings) (now (a .args .choices)) (planes a))
+past : (e : tie.Else1) → let a = start (e .before) in Holds (tests Plain (a .args .settings) (now (a .args .choices)) (planes a))
 past e = decision (e .before) .passed (e .if1 .left)
 
 -- the planes lie in their ranges
@@ -49,7 +50,7 @@ in-finished-ranges-requires : tie.Need-in-finished-ranges-requires
 in-finished-ranges-requires c κs =
     let e = c .before .before .before in
     let a = start (e .before) in
-    valid (a .args .settings) (now (a .args .choices)) (planes a) (past e) .allowed
+    valid Plain (a .args .settings) (now (a .args .choices)) (planes a) (past e) .allowed
 
 returns-2 : tie.Need-returns-2
 returns-2 c =
@@ -62,7 +63,7 @@ step-count-requires : tie.Need-step-count-requires
 step-count-requires c κs =
     let e = c .before .before .before .before .before in
     let a = start (e .before) in
-    valid (a .args .settings) (now (a .args .choices)) (planes a) (past e) .allowed .transform-most
+    valid Plain (a .args .settings) (now (a .args .choices)) (planes a) (past e) .allowed .transform-most
 
 undo-steps-requires : tie.Need-undo-steps-requires
 undo-steps-requires c κs =
@@ -75,7 +76,7 @@ is-picture-requires : tie.Need-is-picture-requires
 is-picture-requires c κs =
     let e = tested (c .before .before .before .before .before .before) in
     let a = start (e .before) in
-    valid (a .args .settings) (now (a .args .choices)) (planes a) (past e) .allowed
+    valid Plain (a .args .settings) (now (a .args .choices)) (planes a) (past e) .allowed
 
 returns-3 : tie.Need-returns-3
 unfolding inverse
@@ -87,7 +88,7 @@ returns-3 c =
     let s = a .args .settings in
     let φ = now (a .args .choices) in
     decision (tested u .before) .succeeds (tested u .if1 .left) (undone-test s φ (planes a) _ n (u .undo-steps .ensures) (i .is-picture .ensures) (c .if3 .taken)) tt _ refl
-    (u .undo-steps .ensures ∙ undo-all s φ (planes a) _ n (planes a))
+    (u .undo-steps .ensures ∙ undo-all Plain s φ (planes a) _ n (planes a))
 
 run-steps-requires : tie.Need-run-steps-requires
 run-steps-requires c κs =

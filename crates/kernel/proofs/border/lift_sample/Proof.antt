@@ -24,9 +24,6 @@ slice-copy-out-apply c = search needs
 apply-requires : tie.Need-apply-requires
 apply-requires c κs = let x = own (c .before .before) in search needs
 
-mul-t16 : tie.Need-mul-t16
-mul-t16 c = search needs
-
 slice-set-from-c : tie.Need-slice-set-from-c
 slice-set-from-c c = search needs
 
@@ -44,7 +41,7 @@ lift-sample-spec =
     mul-apply
     slice-copy-out-apply
     apply-requires
-    mul-t16
+    (λ c. search needs)
     slice-set-from-c
     (λ c. search needs)
     returns)

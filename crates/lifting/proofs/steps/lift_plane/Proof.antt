@@ -21,12 +21,12 @@ unskipped r = r .before .before .before .before .before .before .if1 .left
 
 -- the pass's numbers, where it changes plane c
 of : (r : tie.After-same-plane) (c : Plane) → r .before .before .before .before .before .pass-at .result .changed ≡ c
-    → PassOf (start r .args .settings) (start r .args .place) (start r .args .back) (r .before .before .before .before .before .pass-at .result) (r .before .before .before .before .pass-number .result) (r .same-plane .result) c
+    → PassOf (start r .args .form) (start r .args .settings) (start r .args .place) (start r .args .back) (r .before .before .before .before .before .pass-at .result) (r .before .before .before .before .kept-pass .result) (r .same-plane .result) c
 of r c e =
     let n = r .before .before .before .before in
     record {
       pass-is = n .before .pass-at .ensures;
-      number-is = n .pass-number .ensures;
+      number-is = n .kept-pass .ensures;
       first-is = r .same-plane .ensures ∙ ap (samePlane (n .before .pass-at .result .read)) (r .before .first-other .ensures);
       changed-is = e;
     }
@@ -34,13 +34,13 @@ of r c e =
 returns : tie.Need-returns
 returns c =
     let a = c .before .args in
-    pass-skipped (a .settings) (a .back) (a .filter) (a .from) (a .to) (passAt (a .settings .transform) (a .place)) (planes (c .before)) (c .if1 .taken)
+    pass-skipped (a .form) (a .settings) (a .back) (a .filter) (a .from) (a .to) (passAt (a .settings .transform) (a .place)) (planes (c .before)) (c .if1 .taken)
 
 pass-at-requires : tie.Need-pass-at-requires
 pass-at-requires c κs = c .before .pre .place
 
-pass-number-requires : tie.Need-pass-number-requires
-pass-number-requires c κs = search needs
+kept-pass-requires : tie.Need-kept-pass-requires
+kept-pass-requires c κs = search needs
 
 cast-w : tie.Need-cast-w
 cast-w c = search needs
@@ -105,7 +105,7 @@ lift-plane-spec =
     (tie.spec
     returns
     pass-at-requires
-    pass-number-requires
+    kept-pass-requires
     cast-w
     cast-h
     first-other-requires

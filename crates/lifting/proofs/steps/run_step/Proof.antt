@@ -47,6 +47,7 @@ lift-quarter-requires c κs =
     let a = f .before .before .before in
     let r = a .pre .planes in
     record {
+      depth = a .pre .depth;
       first-filter = omega (arith, f .filter-at .ensures, fit a .filters (a .args .k));
       second-filter = omega (arith, g .filter-at2 .ensures, fit a .filters 3);
       order = omega arith;
@@ -65,6 +66,7 @@ lift-plane-requires c κs =
     let a = f .before .before .before in
     record {
       place = place a;
+      depth = a .pre .depth;
       filter = omega (arith, f .filter-at .ensures, fit a .filters (a .args .k));
       order = omega arith;
       rows = omega arith;
@@ -79,7 +81,7 @@ returns c =
     let a = f .before .before .before in
     let s = a .args in
     ap (λ (x : List ℤ). triple (now (s .c1)) x (now (s .c3))) (changed-rows (s .settings .width) (s .settings .height) (a .pre .planes .size C2) (q .lift-quarter .ensures))
-    ∙ quarter-step (s .settings) (now (s .choices)) (planes a) (s .settings .transform) (s .k) _ _ (third (g .before)) (f .filter-at .ensures) (g .filter-at2 .ensures) (s .back)
+    ∙ quarter-step (s .form) (s .settings) (now (s .choices)) (planes a) (s .settings .transform) (s .k) _ _ (third (g .before)) (f .filter-at .ensures) (g .filter-at2 .ensures) (s .back)
 
 returns-2 : tie.Need-returns-2
 returns-2 c =
@@ -90,8 +92,8 @@ returns-2 c =
     let s = a .args in
     let x = passAt (s .settings .transform) (s .k) in
     rows-all (a .pre .planes .size) (l .lift-plane .ensures)
-    ∙ ap (λ (m : ℕ). put (planes a) (x .changed) (mapIndexed (passed (s .settings) (s .back) m x (planes a)) 0 (get (planes a) (x .changed)))) (f .filter-at .ensures)
-    ∙ one-pass (s .settings) (now (s .choices)) (planes a) (s .settings .transform) (s .k) (a .pre .step) (e .if1 .left) (s .back)
+    ∙ ap (λ (m : ℕ). put (planes a) (x .changed) (mapIndexed (passed (s .form) (s .settings) (s .back) m x (planes a)) 0 (get (planes a) (x .changed)))) (f .filter-at .ensures)
+    ∙ one-pass (s .form) (s .settings) (now (s .choices)) (planes a) (s .settings .transform) (s .k) (a .pre .step) (e .if1 .left) (s .back)
 
 pub run-step-spec : {M : Type 1} → statement M
 run-step-spec =

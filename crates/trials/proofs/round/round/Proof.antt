@@ -6,6 +6,8 @@ use native.Mathlib.Omega.{arith}
 use lib.ListN.{length}
 use denote.Ref.{now}
 use Rattle.integers.specs.Slices.{slice}
+use Rattle.stage.specs.declared.Plane.the-variants.{C1}
+use Rattle.stage.specs.declared.Form.the-variants.{Plain}
 use Rattle.stage.specs.Planes.{Planes, triple}
 use Rattle.stage.specs.Steps.{Step, steps, places, undo}
 use Rattle.stage.specs.Transform.{setup}
@@ -45,7 +47,7 @@ list a = steps (a .args .settings .transform)
 
 -- the planes as they stand in the loop
 at : (l : tie.At-loop Inv-loop μ-loop) → AtStep (start l .args .settings) (l .loop .from) (triple (l .loop .c1) (l .loop .c2) (l .loop .c3))
-at l = at-next (start l .pre .trial .planes) (l .loop .from) (l .loop .choices) _ (omega arith) (l .loop .inv .1 .planes)
+at l = at-next Plain tt (start l .pre .trial .planes) (l .loop .from) (l .loop .choices) _ (omega arith) (l .loop .inv .1 .planes)
 
 -- as many places as choices
 as-many : (a : tie.Start Inv-loop μ-loop) → length (now (a .args .choices)) ≡ places (list a)
@@ -62,6 +64,7 @@ fit o =
     let a = start l in
     record {
       transform = a .pre .trial .allowed .transform-most;
+      depth = a .pre .trial .allowed .depth-most C1;
       order = omega (arith, o .step-of .ensures, l .loop .inv .1 .order (place (o .before)));
       last = omega (arith, o .step-of .ensures, step-inside (list a) (l .loop .place));
       choices = l .loop .inv .1 .fit;
@@ -82,7 +85,7 @@ run-steps-requires : tie.Need-run-steps-requires Inv-loop μ-loop
 run-steps-requires c κs =
     let o = c .before .before .before .before in
     let l = o .before .before in
-    ready-run (start l .pre .trial .allowed .depth-most) (fit o) (at l)
+    ready-run (start l .pre .trial .allowed .depth-most) Plain tt (fit o) (at l)
 
 abbrev stepped : tie.After-run-steps Inv-loop μ-loop → tie.After-step-of Inv-loop μ-loop
 stepped r = r .before .before .before .before .before
@@ -110,7 +113,7 @@ choose-requires c κs =
       trial = record {
         allowed = a .pre .trial .allowed;
         step = step-inside (list a) (l .loop .place);
-        planes = at-next (a .pre .trial .planes) k (l .loop .choices) _ (omega arith) (arrived r);
+        planes = at-next Plain tt (a .pre .trial .planes) k (l .loop .choices) _ (omega arith) (arrived r);
         counters = v .counters;
         logarithms = a .pre .trial .logarithms;
       };
@@ -152,7 +155,7 @@ undo-steps-requires c κs =
     let a = start l in
     let v = l .loop .inv .1 in
     ready-undo (a .pre .trial .allowed .depth-most)
-    (record { transform = a .pre .trial .allowed .transform-most; order = omega arith; last = v .inside; choices = v .fit }) (a .pre .trial .planes) (v .planes)
+    (record { transform = a .pre .trial .allowed .transform-most; depth = a .pre .trial .allowed .depth-most C1; order = omega arith; last = v .inside; choices = v .fit }) (a .pre .trial .planes) (v .planes)
 
 -- the planes with all steps undone
 restored : (u : tie.After-undo-steps Inv-loop μ-loop) → let a = start (u .before .before .before .before .before .before) in let m = u .undo-steps .last in
@@ -162,7 +165,7 @@ restored u =
     let a = start l in
     let s = a .args .settings in
     let ψ = l .loop .choices in
-    u .undo-steps .ensures ∙ ap (undo (setup s ψ) (slice (list a) 0 (l .loop .from))) (l .loop .inv .1 .planes) ∙ slice-undone s ψ 0 (l .loop .from) (planes a)
+    u .undo-steps .ensures ∙ ap (undo (setup Plain s ψ) (slice (list a) 0 (l .loop .from))) (l .loop .inv .1 .planes) ∙ slice-undone s ψ 0 (l .loop .from) (planes a)
 
 returns : tie.Need-returns Inv-loop μ-loop
 returns c =

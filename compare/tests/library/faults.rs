@@ -1,0 +1,146 @@
+//! Everything that the calls on planes refuse.
+
+use crate::same::Case;
+use compare::reference::{counters, greatest, Settings};
+
+/// A fault and the refusal that it causes.
+pub struct Fault {
+    pub number: u32,
+    pub make: Box<dyn Fn(&mut Case)>,
+}
+
+/// A call on planes.
+#[derive(Clone, Copy, PartialEq)]
+pub enum Call {
+    Forward,
+    Inverse,
+    ForwardWrapped,
+    InverseWrapped,
+    Estimate,
+    Search,
+}
+
+pub const CALLS: [Call; 6] =
+    [Call::Forward, Call::Inverse, Call::ForwardWrapped, Call::InverseWrapped, Call::Estimate, Call::Search];
+
+impl Call {
+    pub fn is_wrapped(self) -> bool {
+        matches!(self, Call::ForwardWrapped | Call::InverseWrapped)
+    }
+
+    fn has_scratch(self) -> bool {
+        matches!(self, Call::Estimate | Call::Search)
+    }
+
+    /// The number that the call answers; everything else is compared on the way.
+    pub fn answer(self, case: &Case) -> u32 {
+        match self {
+            Call::Forward => case.forward().0,
+            Call::Inverse => case.inverse().0,
+            Call::ForwardWrapped => case.forward_wrapped().0,
+            Call::InverseWrapped => case.inverse_wrapped().0,
+            Call::Estimate => case.estimate().refusal,
+            Call::Search => case.search().0.refusal,
+        }
+    }
+}
+
+/// Faults, in the order of the tests.
+#[derive(Default)]
+struct Faults(Vec<Fault>);
+
+impl Faults {
+    fn add(&mut self, number: u32, make: impl Fn(&mut Case) + 'static) {
+        self.0.push(Fault { number, make: Box::new(make) });
+    }
+
+    /// 2, 5, 16 where the call is of a wrapped form, and 6.
+    fn add_settings(&mut self, call: Call, depth: u32) {
+        for side in [0, 8193, 65_536, 1 << 31, u32::MAX] {
+            self.add(2, move |case| case.settings.width = side);
+            self.add(2, move |case| case.settings.height = side);
+        }
+        self.add(2, |case| (case.settings.width, case.settings.height) = (65_536, 65_536));
+        for depth in [0, 1, 17, 31, 32, 34, 256 + 8, u32::MAX] {
+            self.add(5, move |case| case.settings.depths = [depth; 3]);
+            for plane in 0..3 {
+                self.add(5, move |case| case.settings.depths[plane] = depth);
+            }
+        }
+        if call.is_wrapped() {
+            for other in [2, 3, 9, 15, 16].into_iter().filter(|&other| other != depth) {
+                for plane in 0..3 {
+                    self.add(16, move |case| case.settings.depths[plane] = other);
+                }
+            }
+            self.add(16, |case| case.settings.depths = [4, 6, 11]);
+        }
+        for transform in [4, 5, 256, 1 << 16, u32::MAX] {
+            self.add(6, move |case| case.settings.transform = transform);
+        }
+    }
+
+    /// 7 and 8.
+    fn add_lengths(&mut self, call: Call, choices: usize) {
+        self.add(7, |case| case.choices.truncate(1));
+        self.add(7, |case| case.choices.push(0));
+        self.add(7, |case| case.choices.clear());
+        if call != Call::Search {
+            for place in 0..choices {
+                for filter in [13, 128, 255] {
+                    self.add(7, move |case| {
+                        case.choices.get_mut(place).into_iter().for_each(|choice| *choice = filter)
+                    });
+                }
+            }
+        }
+        for plane in 0..3 {
+            self.add(8, move |case| case.planes[plane].truncate(1));
+            self.add(8, move |case| case.planes[plane].push(0));
+            self.add(8, move |case| case.planes[plane].clear());
+        }
+    }
+
+    /// 9, and 10 where the call is the search.
+    fn add_scratch(&mut self, call: Call, samples: usize, needed: usize) {
+        for plane in 0..3 {
+            self.add(9, move |case| case.trial[plane].truncate(samples - 1));
+            self.add(9, move |case| case.trial[plane].clear());
+        }
+        self.add(9, move |case| case.counters.truncate(needed - 1));
+        self.add(9, move |case| case.counters.clear());
+        if call == Call::Search {
+            for rounds in [0, 5, 256 + 1, u32::MAX] {
+                self.add(10, move |case| case.rounds = rounds);
+            }
+        }
+    }
+
+    /// 12 where the call is the plain inverse, else 11.
+    fn add_samples(&mut self, call: Call, depths: [u32; 3]) {
+        for (plane, greatest) in greatest(depths).into_iter().enumerate() {
+            let (number, samples) = match call {
+                Call::Inverse => (12, [i32::MIN, i32::MAX, 1 << 20, -(1 << 20)]),
+                _ => (11, [-1, greatest as i32 + 1, i32::MIN, i32::MAX]),
+            };
+            for sample in samples {
+                let set = move |sample_at: Option<&mut i32>| sample_at.into_iter().for_each(|at| *at = sample);
+                self.add(number, move |case| set(case.planes[plane].first_mut()));
+                self.add(number, move |case| set(case.planes[plane].last_mut()));
+            }
+        }
+    }
+}
+
+/// All faults that the call tests for, in the order of the tests.
+pub fn faults(call: Call, case: &Case) -> Vec<Fault> {
+    let Settings { depths, transform, .. } = case.settings;
+    let mut faults = Faults::default();
+    faults.add_settings(call, depths[0]);
+    faults.add_lengths(call, case.choices.len());
+    if call.has_scratch() {
+        faults.add_scratch(call, case.samples(), counters(depths, transform));
+    }
+    faults.add_samples(call, depths);
+    faults.0
+}
