@@ -58,19 +58,29 @@ fn choices(transform: u32, n: u32) -> Vec<u8> {
     (0..places as u32).map(|place| ((n + 3 * place) % 13) as u8).collect()
 }
 
-/// Forward and, on what that leaves, back.
+type Call = fn(Settings, &[u8], [&[i32]; 3]) -> Answer;
+
+/// A form's word, and its calls there and back.
+const FORMS: [(&str, Call, Call); 2] = [
+    ("", reference::forward, reference::inverse),
+    (" wrapped", reference::forward_wrapped, reference::inverse_wrapped),
+];
+
+/// Forward and, on what that leaves, back, in both forms.
 fn limit(settings: Settings, filters: &[u8], planes: Planes, short: bool) {
-    let forward = reference::forward(settings, filters, lent(&planes));
-    let finished = left(&planes, &forward);
-    let inverse = reference::inverse(settings, filters, lent(&finished));
-    let again = left(&finished, &inverse);
-    let told = told_filters(settings, filters);
-    let (forward, inverse) = (answered(&forward), answered(&inverse));
-    if short {
-        println!("{told} forward {forward} inverse {inverse}");
-    } else {
-        let [before, finished, again] = [planes, finished, again].map(|planes| numbers(&planes));
-        println!("{told} planes{before} forward {forward}{finished} inverse {inverse}{again}");
+    for (form, there, back) in FORMS {
+        let forward = there(settings, filters, lent(&planes));
+        let finished = left(&planes, &forward);
+        let inverse = back(settings, filters, lent(&finished));
+        let again = left(&finished, &inverse);
+        let told = told_filters(settings, filters);
+        let (forward, inverse) = (answered(&forward), answered(&inverse));
+        if short {
+            println!("{told}{form} forward {forward} inverse {inverse}");
+        } else {
+            let [before, finished, again] = [&planes, &finished, &again].map(numbers);
+            println!("{told} planes{before}{form} forward {forward}{finished} inverse {inverse}{again}");
+        }
     }
 }
 
@@ -123,7 +133,22 @@ fn compared(planes: &Planes, picture: &Planes) -> &'static str {
     }
 }
 
-/// Picture `k`: there and back, then with a finished plane's middle number replaced.
+/// The picture in the wrapped form, with its deepest depth for all planes: there and back, then back and there.
+fn wrapped(settings: Settings, filters: &[u8], picture: &Planes) {
+    let [_, (_, there, back)] = FORMS;
+    let deepest = settings.depths.into_iter().max().unwrap();
+    let settings = Settings { depths: [deepest; 3], ..settings };
+    println!("wrapped to bits {deepest}");
+    for (first, then, words) in [(there, back, ["forward", "inverse"]), (back, there, ["inverse", "forward"])] {
+        let answer = first(settings, filters, lent(picture));
+        let after = left(picture, &answer);
+        println!("{} {}{}", words[0], answered(&answer), numbers(&after));
+        let answer = then(settings, filters, lent(&after));
+        println!("{} {} {}", words[1], answered(&answer), compared(&left(&after, &answer), picture));
+    }
+}
+
+/// Picture `k`: there and back, then with a finished plane's middle number replaced, then in the wrapped form.
 fn picture(k: u32) {
     let (width, height) = [(1, 1), (1, 6), (7, 1), (2, 2), (3, 3), (5, 4), (4, 3)][k as usize % 7];
     let depths = [2 + k % 15, 16 - k % 15, 2 + k / 4 % 15];
@@ -155,6 +180,7 @@ fn picture(k: u32) {
     }
     println!();
     println!("{back}");
+    wrapped(settings, &filters, &picture);
 }
 
 fn transform_cases() {

@@ -46,5 +46,4 @@ pub record PassAllowed (p : KeptPass) : Type 0 where
 
 pub record Applicable (p : KeptPass) (c f : ℤ) : Type 0 where
   pub pass : PassAllowed p
-  pub sample : In 4194304 4194304 c
-  pub value : In 524288 524288 f
+  pub operands : Operands (p .number) c f

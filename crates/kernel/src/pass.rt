@@ -60,7 +60,7 @@ fn result(number: u32, c: i32, f: i32) -> i32
     }
 }
 
-// The lowest 16 bits, also below zero: 2^25 more makes every number that a pass meets positive and leaves them as they are.
+// The lowest 16 bits, also below zero: 2^25 more makes every number that a pass meets positive and leaves those bits as they are.
 fn low_bits(x: i32) -> u16
     requires { ⌜ In 33554432 33554432 x ⌝ }
     ensures { λ r. ⌜ floorMod x (2 ^ 16) ≡ pos r ⌝ }
@@ -68,7 +68,7 @@ fn low_bits(x: i32) -> u16
     (((x + 33554432) as u32) & 65535) as u16
 }
 
-// The result modulo 2^16. A quarter is taken of whole numbers, and reduced then.
+// The result modulo 2^16. A quarter is taken of the whole sum, and only then reduced.
 fn wrapped_result(number: u32, c: i32, f: i32) -> u16
     requires { ⌜ Operands number c f ⌝ }
     ensures { λ r. ⌜ floorMod (made number c f) (2 ^ 16) ≡ pos r ⌝ }
@@ -86,7 +86,8 @@ fn wrapped_result(number: u32, c: i32, f: i32) -> u16
     }
 }
 
-// Reduced to the depth: bits of 0 to M, which 2^16 has more of.
+// The result as the form keeps it: as it is, or of its lowest 16 bits those of the depth. The mask has 32 bits, as samples have, so that no
+// lane changes its width.
 pub fn apply(number: u32, form: Form, depth: u32, c: i32, f: i32) -> i32
     requires { ⌜ Applicable (keptPass number form depth) c f ⌝ }
     ensures { λ r. ⌜ r ≡ applied (keptPass number form depth) c f ⌝ }

@@ -40,13 +40,13 @@ WrappedRefusesOutside =
     → OutsideRefused s φ p
 
 -- No plane ever widens: samples stay within 0 to M after each step, on the way there and back.
-pub record NeverWidens (s : Settings) (φ : List ℕ) (n : ℕ) (p : Planes) : Type 0 where
+pub record StaysWithin (s : Settings) (φ : List ℕ) (n : ℕ) (p : Planes) : Type 0 where
   pub there : InRanges (sampleRanges s) (run (setup Wrapped s φ) (take n (steps (s .transform))) p)
   pub back : InRanges (sampleRanges s) (undo (setup Wrapped s φ) (drop n (steps (s .transform))) p)
 
 abbrev pub WrappedNeverWidens : Type 0
 WrappedNeverWidens =
-    (s : Settings) (φ : List ℕ) (n : ℕ) (p : Planes) → T (depthsSuit Wrapped (s .depths)) → InRanges (sampleRanges s) p → NeverWidens s φ n p
+    (s : Settings) (φ : List ℕ) (n : ℕ) (p : Planes) → T (depthsSuit Wrapped (s .depths)) → InRanges (sampleRanges s) p → StaysWithin s φ n p
 
 -- Both forms keep ranges, so they have what is proved of every setup that does: the numbers met and the window sums.
 abbrev pub FormsKeepRanges : Type 0

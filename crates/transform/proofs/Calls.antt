@@ -9,22 +9,24 @@ use lib.ListN.{length}
 use Rattle.integers.specs.Slices.{slice}
 use Rattle.integers.proofs.Booleans.{true-holds}
 use Rattle.integers.proofs.Slices.{slice-back}
+use Rattle.stage.specs.declared.Answer.{Answer}
 use Rattle.stage.specs.declared.Answer.the-variants.{Refused}
 use Rattle.stage.specs.declared.Settings.{Settings}
 use Rattle.stage.specs.declared.Form.{Form}
-use Rattle.stage.specs.declared.Form.the-variants.{Plain}
+use Rattle.stage.specs.declared.Form.the-variants.{Plain, Wrapped}
 use Rattle.stage.specs.declared.Plane.the-variants.{C1}
 use Rattle.stage.specs.Answers.{Test, refusal, outcomeOf}
 use Rattle.stage.specs.Planes.{Planes}
 use Rattle.stage.specs.Steps.{Step, steps, run, undo}
 use Rattle.stage.specs.Ranges.{sampleRanges, finishedRanges, withinRanges, InRanges}
-use Rattle.stage.specs.Transform.{choicesFit, lengths, settingsTests, HasSize, setup, transformed, untransformed, isPicture, inverse}
+use Rattle.stage.specs.Transform.{choicesFit, lengths, settingsTests, HasSize, setup, transformed, untransformed, isPicture, forward, inverse}
 use Rattle.stage.proofs.Answers.{Holds, Decides, decides}
 use Rattle.stage.proofs.Validity.{ValidSettings, settings-iff, has-size}
 use Rattle.stage.proofs.StepRanges.{ranges-grow, in-inside}
 use Rattle.stage.proofs.Forms.{steps-cancel}
 use Rattle.stage.proofs.Demand3.{withinRanges-iff, demand3}
 use Rattle.lifting.specs.Steps.{StepsFit, RunReady, UndoReady}
+use Rattle.transform.specs.Calls.{PictureGives, ForwardGives, InverseGives}
 use Rattle.lifting.proofs.Readiness.{picture-first, ready-run, ready-inverse, ready-again}
 
 module _ (κ : Form) (s : Settings) (φ : List ℕ) (p : Planes) where
@@ -47,6 +49,16 @@ module _ (κ : Form) (s : Settings) (φ : List ℕ) (p : Planes) where
     pub undo-all : (x : Planes) → undo (setup κ s φ) (slice (steps (s .transform)) 0 n) x ≡ untransformed κ s φ x
     unfolding untransformed
     undo-all x = ap (λ (l : List Step). undo (setup κ s φ) l x) (slice-back (steps (s .transform)) 0 n all)
+
+-- a picture's planes with all steps run, or in the wrapped forms undone, are what the calls leave
+module _ (s : Settings) (φ : List ℕ) (p : Planes) (r : Answer) {q : Planes} where
+  pub picture-forward : (κ : Form) → PictureGives κ false s φ p r q → ForwardGives κ s φ p r q
+  unfolding forward
+  picture-forward κ e = e .is
+
+  pub picture-inverse : PictureGives Wrapped true s φ p r q → InverseGives Wrapped s φ p r q
+  unfolding inverse
+  picture-inverse e = e .is
 
 -- past the tests of the settings
 module _ (κ : Form) (s : Settings) (φ : List ℕ) (p : Planes) (h : Holds (tests κ s φ p)) where

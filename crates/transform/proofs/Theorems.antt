@@ -14,13 +14,13 @@ use Rattle.stage.specs.Answers.{done, refused, Outcome, replyOf, outcomeOf}
 use Rattle.stage.specs.Settings.{depthsSuit, Allowed}
 use Rattle.stage.specs.Planes.{Planes}
 use Rattle.stage.specs.Ranges.{sampleRanges, InRanges}
-use Rattle.stage.specs.Transform.{choicesFit, transformed, untransformed, forward, inverse}
+use Rattle.stage.specs.Transform.{choicesFit, transformed, untransformed, inverse}
 use Rattle.stage.specs.Demand3.{GoesTo, accepted, Demand3}
 use Rattle.stage.proofs.Forms.{goes-within}
 use Rattle.stage.proofs.Demand3.{withinRanges-iff, leads, forward-iff, inverse-iff, demand3, calls-inverse}
 use Rattle.stage.proofs.WrappedForms.{wrapped-refuses-outside}
 use Rattle.stage.proofs.NullSteps.{nulls-leave-pictures}
-use Rattle.transform.specs.Calls.{ForwardThenInverse, InverseThenForward, CallsDemand3, CallsMeetDemand3, CallsLeaveNulls, CallsWrapped, CallsNeverWiden}
+use Rattle.transform.specs.Calls.{ForwardThenInverse, InverseThenForward, CallsDemand3, CallsMeetDemand3, CallsLeaveNulls, NeverWidens, CallsNeverWiden}
 
 done-is : (r : Answer) → replyOf r ≡ done tt → r ≡ Done
 done-is Done e = refl
@@ -73,25 +73,25 @@ calls-leave-nulls κ s p a d h r q = let n = nulls-leave-pictures κ s p a d h i
 -- ---- the wrapped calls
 -- a call o, lent p, that refuses p with 11 exactly where it is outside 0 to M, and otherwise leaves u, within 0 to M
 module _ (s : Settings) {p u : Planes} {o : Outcome (Unit {0}) Planes} (refuses : (o ≡ record { reply = refused 11; memory = p }) ↔ (InRanges (sampleRanges s) p → ⊥))
-    (accepts : InRanges (sampleRanges s) p → o ≡ accepted u) (r : Answer) (q : Planes) (e : outcomeOf r q ≡ o) where
-  wrapped-refuses : (r ≡ Refused 11) ↔ (InRanges (sampleRanges s) p → ⊥)
-  wrapped-refuses = (λ i h. let z : _≡_ {A = ℕ} 0 1 = let d = accepted-is r q (e ∙ accepts h) .0 in cc in omega arith, λ f. refusal-is r q (e ∙ refuses .1 f) .0)
+    (accepts : InRanges (sampleRanges s) p → (o ≡ accepted u) × InRanges (sampleRanges s) u) (r : Answer) (q : Planes) (e : outcomeOf r q ≡ o) where
+  outside : r ≡ Refused 11 → InRanges (sampleRanges s) p → ⊥
+  outside i h = let d = accepted-is r q (e ∙ accepts h .0) .0 in let z : _≡_ {A = ℕ} 0 1 = cc in omega arith
 
-  wrapped-done : InRanges (sampleRanges s) u → InRanges (sampleRanges s) p → (r ≡ Done) × InRanges (sampleRanges s) q
-  wrapped-done i h = let d = accepted-is r q (e ∙ accepts h) in (d .0, subst (InRanges (sampleRanges s)) (sym (d .1)) i)
+  never-widens : NeverWidens s p r q
+  never-widens = record {
+    refuses = (outside, λ f. refusal-is r q (e ∙ refuses .1 f) .0);
+    lent = λ i. refusal-is r q (e ∙ refuses .1 (outside i)) .1;
+    done = λ h. let d = accepted-is r q (e ∙ accepts h .0) in (d .0, subst (InRanges (sampleRanges s)) (sym (d .1)) (accepts h .1));
+  }
 
 pub calls-never-widen : CallsNeverWiden
 calls-never-widen s φ a d f p z r q =
-    let outside = wrapped-refuses-outside s φ a d f p z in
+    let refuses = wrapped-refuses-outside s φ a d f p z in
     let fit : (Allowed s × T (depthsSuit Wrapped (s .depths))) × T (choicesFit s φ) = ((a, d), f) in
-    let there : InRanges (sampleRanges s) p → forward Wrapped s φ p ≡ accepted (transformed Wrapped s φ p) =
-    λ i. forward-iff Wrapped s φ p _ .1 (fit, record { picture = record { size = z; samples = i }; goes = refl }) in
-    let one : InRanges (sampleRanges s) p → GoesTo Wrapped s φ (untransformed Wrapped s φ p) p =
-    λ i. leads Wrapped s φ p d z (withinRanges-iff (sampleRanges s) p .1 i) in
-    let back : InRanges (sampleRanges s) p → inverse Wrapped s φ p ≡ accepted (untransformed Wrapped s φ p) = λ i. inverse-iff Wrapped s φ _ p .1 (fit, one i) in
-    record {
-      forward-refuses = wrapped-refuses s (outside .there) there r q;
-      inverse-refuses = wrapped-refuses s (outside .back) back r q;
-      forward-done = λ e i. wrapped-done s (outside .there) there r q e (goes-within Wrapped s φ p _ d (record { picture = record { size = z; samples = i }; goes = refl })) i;
-      inverse-done = λ e i. wrapped-done s (outside .back) back r q e (one i .picture .samples) i;
-    }
+    let to : InRanges (sampleRanges s) p → GoesTo Wrapped s φ p (transformed Wrapped s φ p) =
+    λ i. record { picture = record { size = z; samples = i }; goes = refl } in
+    let from : InRanges (sampleRanges s) p → GoesTo Wrapped s φ (untransformed Wrapped s φ p) p =
+    λ i. leads Wrapped s φ p d z (withinRanges-iff (sampleRanges s) p .1 i) in (
+      never-widens s (refuses .there) (λ i. (forward-iff Wrapped s φ p _ .1 (fit, to i), goes-within Wrapped s φ p _ d (to i))) r q,
+      never-widens s (refuses .back) (λ i. (inverse-iff Wrapped s φ _ p .1 (fit, from i), from i .picture .samples)) r q,
+    )

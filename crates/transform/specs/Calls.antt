@@ -26,10 +26,9 @@ abbrev pub InverseGives : Form → Settings → List ℕ → Planes → Answer �
 InverseGives κ s φ p r q = outcomeOf r q ≡ inverse κ s φ p
 
 -- Three of the four calls take a picture's planes: all steps are run, or undone.
-abbrev pub PictureGives : Form → Bool → Settings → List ℕ → Planes → Answer → Planes → Type 0
-PictureGives κ back s φ p r q =
-    outcomeOf r q
-    ≡ outcome (settingsTests κ s (choicesFit s φ) (lengths p) ++ (isPicture s p else 11) ∷ []) tt (cond back (untransformed κ s φ p) (transformed κ s φ p)) p
+pub record PictureGives (κ : Form) (back : Bool) (s : Settings) (φ : List ℕ) (p : Planes) (r : Answer) (q : Planes) : Type 0 where
+  pub is : outcomeOf r q
+      ≡ outcome (settingsTests κ s (choicesFit s φ) (lengths p) ++ (isPicture s p else 11) ∷ []) tt (cond back (untransformed κ s φ p) (transformed κ s φ p)) p
 
 -- Forward and then back, with the same settings: the picture again. And the other way round.
 abbrev pub ForwardThenInverse : Type 0
@@ -59,19 +58,19 @@ CallsMeetDemand3 =
     (κ : Form) (s : Settings) (φ : List ℕ) → Allowed s → T (depthsSuit κ (s .depths)) → T (choicesFit s φ) → (q : Planes) → HasSize s q
     → (r : Answer) (u : Planes) → InverseGives κ s φ q r u → CallsDemand3 κ s φ q r u
 
--- 02, request 9, of the wrapped calls: lent planes p of the picture's size, one of them answered r and left q.
-pub record CallsWrapped (s : Settings) (φ : List ℕ) (p : Planes) (r : Answer) (q : Planes) : Type 0 where
-  -- 11 exactly for a sample outside 0 to M, either way, and the planes still hold p
-  pub forward-refuses : ForwardGives Wrapped s φ p r q → (r ≡ Refused 11) ↔ (InRanges (sampleRanges s) p → ⊥)
-  pub inverse-refuses : InverseGives Wrapped s φ p r q → (r ≡ Refused 11) ↔ (InRanges (sampleRanges s) p → ⊥)
-  -- else, where p is three planes of 0 to M, it is done, and leaves such planes again
-  pub forward-done : ForwardGives Wrapped s φ p r q → InRanges (sampleRanges s) p → (r ≡ Done) × InRanges (sampleRanges s) q
-  pub inverse-done : InverseGives Wrapped s φ p r q → InRanges (sampleRanges s) p → (r ≡ Done) × InRanges (sampleRanges s) q
+-- 02, request 9, of a wrapped call: lent planes p of the picture's size, it answered r and left q.
+pub record NeverWidens (s : Settings) (p : Planes) (r : Answer) (q : Planes) : Type 0 where
+  -- 11 exactly for a sample outside 0 to M, and then the planes still hold p
+  pub refuses : (r ≡ Refused 11) ↔ (InRanges (sampleRanges s) p → ⊥)
+  pub lent : r ≡ Refused 11 → q ≡ p
+  -- in every other case it is done, and leaves planes of 0 to M again
+  pub done : InRanges (sampleRanges s) p → (r ≡ Done) × InRanges (sampleRanges s) q
 
+-- "either way"
 abbrev pub CallsNeverWiden : Type 0
 CallsNeverWiden =
     (s : Settings) (φ : List ℕ) → Allowed s → T (depthsSuit Wrapped (s .depths)) → T (choicesFit s φ) → (p : Planes) → HasSize s p
-    → (r : Answer) (q : Planes) → CallsWrapped s φ p r q
+    → (r : Answer) (q : Planes) → (ForwardGives Wrapped s φ p r q → NeverWidens s p r q) × (InverseGives Wrapped s φ p r q → NeverWidens s p r q)
 
 -- 02, request 1: lent a picture with every filter null, both calls leave it as it is.
 abbrev pub CallsLeaveNulls : Type 0

@@ -1,13 +1,15 @@
-// The limits that 01 names, from both sides, a case of each other refusal, and null steps.
+// The limits that 01 names, from both sides, a case of each other refusal, and null steps, in both forms.
+use crate::forms::back;
+use crate::forms::there;
 use crate::text::print_answer;
 use crate::text::print_choices;
+use crate::text::print_form;
 use crate::text::print_planes;
 use case_text::print;
 use stage::Depths;
+use stage::Form;
 use stage::Settings;
 use stage::each;
-use transform::forward;
-use transform::inverse;
 
 fn settings(width: u32, height: u32, depths: Depths, transform: u32) -> Settings {
     Settings {
@@ -19,13 +21,19 @@ fn settings(width: u32, height: u32, depths: Depths, transform: u32) -> Settings
 }
 
 // Forward and, on what that leaves, back. Only the answers are printed.
-fn answers(width: u32, height: u32, c1: &mut [i32], c2: &mut [i32], c3: &mut [i32]) {
+fn answers_in(form: Form, width: u32, height: u32, c1: &mut [i32], c2: &mut [i32], c3: &mut [i32]) {
     let s = settings(width, height, each(8), 0);
     let choices = [1u8; 4];
     print_choices(s, &choices);
-    print_answer(b" forward", forward(s, &choices, c1, c2, c3));
-    print_answer(b" inverse", inverse(s, &choices, c1, c2, c3));
+    print_form(form);
+    print_answer(b" forward", there(form, s, &choices, c1, c2, c3));
+    print_answer(b" inverse", back(form, s, &choices, c1, c2, c3));
     print(b"\n");
+}
+
+fn answers(width: u32, height: u32, c1: &mut [i32], c2: &mut [i32], c3: &mut [i32]) {
+    answers_in(Form::Plain, width, height, c1, c2, c3);
+    answers_in(Form::Wrapped, width, height, c1, c2, c3);
 }
 
 // One row and one column.
@@ -46,20 +54,26 @@ fn too_long() {
 }
 
 // Forward and back of one pixel.
-fn pixel(s: Settings, choices: &[u8], red: i32, green: i32, blue: i32) {
+fn pixel_in(form: Form, s: Settings, choices: &[u8], red: i32, green: i32, blue: i32) {
     let mut c1 = [red];
     let mut c2 = [green];
     let mut c3 = [blue];
     print_choices(s, choices);
     print(b" planes");
     print_planes(&c1, &c2, &c3);
-    let a = forward(s, choices, &mut c1, &mut c2, &mut c3);
+    print_form(form);
+    let a = there(form, s, choices, &mut c1, &mut c2, &mut c3);
     print_answer(b" forward", a);
     print_planes(&c1, &c2, &c3);
-    let b = inverse(s, choices, &mut c1, &mut c2, &mut c3);
+    let b = back(form, s, choices, &mut c1, &mut c2, &mut c3);
     print_answer(b" inverse", b);
     print_planes(&c1, &c2, &c3);
     print(b"\n");
+}
+
+fn pixel(s: Settings, choices: &[u8], red: i32, green: i32, blue: i32) {
+    pixel_in(Form::Plain, s, choices, red, green, blue);
+    pixel_in(Form::Wrapped, s, choices, red, green, blue);
 }
 
 fn of_depths(c1: u32, c2: u32, c3: u32) {

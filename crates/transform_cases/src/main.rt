@@ -1,8 +1,11 @@
-// What the transforms' calls answer and leave: 01's limits, then generated pictures over all transforms and filters.
-// `compare` prints the same lines from the reference: gate transform_cases.
+// What the transforms' calls answer and leave: 01's limits, then generated pictures over all transforms and filters, in both
+// forms. `compare` prints the same lines from the reference: gate transform_cases.
+mod forms;
+mod generated;
 mod limits;
 mod pictures;
 mod text;
+mod wrapped;
 
 use limits::limits;
 use pictures::pictures;

@@ -1,57 +1,25 @@
 // Generated pictures of small sizes over all transforms, with depths of 2 to 16 beside each other and each filter at each place.
 ghost use Prim.Native.Nat.{_≤_};
 ghost use Rattle.stage.specs.Settings.{UpTo16};
+use crate::generated::Generated;
+use crate::generated::there_and_back;
+use crate::generated::undo;
 use crate::text::print_answer;
 use crate::text::print_choices;
 use crate::text::print_planes;
+use crate::wrapped::wrap;
 use case_pictures::choice;
 use case_pictures::fill;
-use case_pictures::is_filled;
 use case_pictures::levels;
 use case_text::print;
 use case_text::print_field;
 use case_text::print_sample;
 use stage::Answer;
 use stage::Depths;
+use stage::Form;
 use stage::Settings;
 use transform::forward;
 use transform::inverse;
-
-// The generator's number before each plane.
-struct Generated {
-    x1: u32,
-    x2: u32,
-    x3: u32,
-}
-
-// Whether the planes hold the picture.
-fn print_compared(d: Depths, p: Generated, c1: &[i32], c2: &[i32], c3: &[i32])
-    requires { ⌜ UpTo16 d ⌝ }
-{
-    let first = is_filled(c1, levels(d.c1), p.x1);
-    let second = is_filled(c2, levels(d.c2), p.x2);
-    let third = is_filled(c3, levels(d.c3), p.x3);
-    if first & (second & third) {
-        print(b" the picture\n");
-    } else {
-        print(b" another picture\n");
-    }
-}
-
-fn run(s: Settings, choices: &[u8], c1: &mut [i32], c2: &mut [i32], c3: &mut [i32]) {
-    let a = forward(s, choices, c1, c2, c3);
-    print_answer(b"forward", a);
-    print_planes(c1, c2, c3);
-    print(b"\n");
-}
-
-fn undo(s: Settings, p: Generated, choices: &[u8], c1: &mut [i32], c2: &mut [i32], c3: &mut [i32])
-    requires { ⌜ UpTo16 (s .depths) ⌝ }
-{
-    let a = inverse(s, choices, c1, c2, c3);
-    print_answer(b"inverse", a);
-    print_compared(s.depths, p, c1, c2, c3);
-}
 
 // Puts a number at an index and answers the number that stood there.
 fn replace(plane: &mut [i32], i: usize, z: i32) -> i32 {
@@ -116,7 +84,8 @@ fn damaged_number(kind: u32) -> i32 {
     }
 }
 
-fn there_and_back(
+fn show_plain(
+    k: u32,
     s: Settings,
     p: Generated,
     choices: &[u8],
@@ -124,10 +93,11 @@ fn there_and_back(
     c2: &mut [i32],
     c3: &mut [i32],
 )
-    requires { ⌜ UpTo16 (s .depths) ⌝ }
+    requires { ⌜ UpTo16 (p .depths) ⌝ }
 {
-    run(s, choices, c1, c2, c3);
-    undo(s, p, choices, c1, c2, c3);
+    there_and_back(Form::Plain, s, p, choices, c1, c2, c3);
+    damage(s, choices, c1, c2, c3, 1 + k % 3, damaged_number(k / 4 % 4));
+    undo(Form::Plain, s, p, choices, c1, c2, c3);
 }
 
 fn show(
@@ -139,15 +109,14 @@ fn show(
     c2: &mut [i32],
     c3: &mut [i32],
 )
-    requires { ⌜ UpTo16 (s .depths) ⌝ }
+    requires { ⌜ UpTo16 (p .depths) ⌝ }
 {
     print_field(b"picture", k);
     print(b" ");
     print_choices(s, choices);
     print(b"\n");
-    there_and_back(s, p, choices, c1, c2, c3);
-    damage(s, choices, c1, c2, c3, 1 + k % 3, damaged_number(k / 4 % 4));
-    undo(s, p, choices, c1, c2, c3);
+    show_plain(k, s, p, choices, c1, c2, c3);
+    wrap(s, p, choices, c1, c2, c3);
 }
 
 // Fills the planes with the picture of a number.
@@ -164,7 +133,9 @@ fn fill_and_show(
     let x2 = fill(c1, levels(s.depths.c1), k);
     let x3 = fill(c2, levels(s.depths.c2), x2);
     fill(c3, levels(s.depths.c3), x3);
+    let depths = s.depths;
     let p = Generated {
+        depths: depths,
         x1: k,
         x2: x2,
         x3: x3,

@@ -5,6 +5,7 @@ use case_text::print_filters;
 use case_text::print_sample;
 use case_text::print_settings;
 use stage::Answer;
+use stage::Form;
 use stage::Settings;
 
 // A number behind a blank.
@@ -33,6 +34,14 @@ pub(crate) fn print_choices(s: Settings, choices: &[u8]) {
     print_settings(s);
     print(b" filters");
     print_filters(choices);
+}
+
+// The wrapped form is told, the plain one is not.
+pub(crate) fn print_form(form: Form) {
+    match form {
+        Form::Plain => print(b""),
+        Form::Wrapped => print(b" wrapped"),
+    }
 }
 
 // The name of a call and what it answers.

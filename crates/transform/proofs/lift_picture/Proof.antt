@@ -45,7 +45,7 @@ refusal-requires : tie.Need-refusal-requires
 refusal-requires c κs = search needs
 
 returns : tie.Need-returns
-returns c = decision (c .before) .first (c .if1 .taken)
+returns c = record { is = decision (c .before) .first (c .if1 .taken) }
 
 is-picture-requires : tie.Need-is-picture-requires
 is-picture-requires c κs =
@@ -57,7 +57,7 @@ returns-2 : tie.Need-returns-2
 returns-2 c =
     let i = c .before in
     let e = i .before .before .before .before in
-    decision (e .before) .last (e .if1 .left) (failed (i .is-picture .ensures) (c .if2 .taken))
+    record { is = decision (e .before) .last (e .if1 .left) (failed (i .is-picture .ensures) (c .if2 .taken)) }
 
 step-count-requires : tie.Need-step-count-requires
 step-count-requires c κs =
@@ -85,7 +85,7 @@ run-steps-requires c κs =
 
 succeeded : (n : tie.After-step-count) (q : Planes) → let a = start (tested n .before) in
     q ≡ result a (a .args .back) → PictureGives (a .args .form) (a .args .back) (a .args .settings) (now (a .args .choices)) (planes a) Done q
-succeeded n q e = let t = tested n in decision (t .before) .succeeds (t .if1 .left) (picture (n .before)) tt q refl e
+succeeded n q e = let t = tested n in record { is = decision (t .before) .succeeds (t .if1 .left) (picture (n .before)) tt q refl e }
 
 returns-3 : tie.Need-returns-3
 returns-3 c =

@@ -18,7 +18,7 @@ use Rattle.kernel.proofs.pass.apply.Tie as tie
 
 -- the operands are numbers of 32 bits
 own : (s : tie.Start) (n : ℕ) → made n (toZ w32 (ofZ w32 (s .args .c))) (toZ w32 (ofZ w32 (s .args .f))) ≡ made n (s .args .c) (s .args .f)
-own s n = ap₂ (made n) (toZ-ofZ (in-fits (s .pre .sample) (lit≤ tt) (lit< tt))) (toZ-ofZ (in-fits (s .pre .value) (lit≤ tt) (lit< tt)))
+own s n = ap₂ (made n) (toZ-ofZ (in-fits (s .pre .operands .sample) (lit≤ tt) (lit< tt))) (toZ-ofZ (in-fits (s .pre .operands .value) (lit≤ tt) (lit< tt)))
 
 abbrev start : tie.After-wrapped-result → tie.Start
 start t = t .before .before .before
