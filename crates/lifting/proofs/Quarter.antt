@@ -67,7 +67,7 @@ pub record Turn (κ : Form) (d w h f g : ℕ) (back : Bool) (a b c₀ c : List �
   pub made : {between after : List ℤ} → Changed (λ i x. applied first x (filtered w h f a i)) j m c between
       → Changed (λ i x. applied second x (filtered w h g b i)) j m between after → Changed (quarterAt κ d w h back f g a b) i m c₀ after
 
--- what both loops are given: filters not both null, the two passes, and the planes' ranges
+-- what every turn is given: filters not both null, the two passes, and the planes' ranges
 pub record Turns (κ : Form) (d w h f g : ℕ) (back : Bool) (a b c₀ : List ℤ) (first second : KeptPass) : Type 0 where
   pub unskipped : (eqb f 12 && eqb g 12) ≡ false
   pub depth : d ≤ 16

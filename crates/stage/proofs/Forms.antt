@@ -1,7 +1,7 @@
 -- Both forms keep ranges and let steps be undone: the wrapped ones by one argument over the depth.
 use mathlib.Core.Path.{_≡_, refl, sym, ap, _∙_, subst}
 use mathlib.Core.List.{List}
-use Prim.Native.Nat.{ℕ, _-_, _^_, _≤_, _<_}
+use Prim.Native.Nat.{ℕ, _-_, _^_}
 use native.Mathlib.Omega.{arith}
 use lib.Dec.{T, eqb, eqb→eq}
 use lib.IntN.{ℤ, pos, negℤ}
@@ -16,7 +16,7 @@ use Rattle.stage.specs.Settings.{Settings, Form, Plain, Wrapped, depthAt
 use Rattle.stage.specs.Planes.{Plane, C1, C2, C3, Planes, get}
 use Rattle.stage.specs.Steps.{Step, Lifting, add, subtract, negate, lift, opposite, run, undo, steps}
 use Rattle.stage.specs.Ranges.{Range, maxSample, sampleRange, sampleRanges, finishedRanges, formRanges, InRanges}
-use Rattle.stage.specs.Transform.{kept, setup, transformed, untransformed, HasSize}
+use Rattle.stage.specs.Transform.{kept, setup, transformed, untransformed}
 use Rattle.stage.specs.Demand3.{GoesTo}
 use Rattle.stage.specs.Theorems.{StepsCancel}
 use Rattle.stage.specs.WrappedForms.{FormsKeepRanges, WrappedStepsCancel}
@@ -28,22 +28,19 @@ module _ (b : ℕ) where
   abbrev d : ℕ
   d = 2 ^ b
 
+  again : (x : ℤ) → floorMod (floorMod x d) d ≡ floorMod x d
+  again x = floorMod-own d (pow-pos b) (floorMod x d) (floorMod-in d (pow-pos b) x)
+
   -- a change may be made of what is kept
   lift-kept : (k : Lifting) (v x : ℤ) → floorMod (lift k v (floorMod x d)) d ≡ floorMod (lift k v x) d
-  lift-kept k v x = by k
-    where
-      own : floorMod (floorMod x d) d ≡ floorMod x d
-      own = floorMod-own d (pow-pos b) (floorMod x d) (floorMod-in d (pow-pos b) x)
-
-      by : (k : Lifting) → floorMod (lift k v (floorMod x d)) d ≡ floorMod (lift k v x) d
-      by add = mod-sum d (pow-pos b) (floorMod x d) x v own
-      by subtract = mod-sum d (pow-pos b) (floorMod x d) x (negℤ v) own
-      by negate = mod-sum d (pow-pos b) (negℤ (floorMod x d)) (negℤ x) v (mod-neg d (pow-pos b) (floorMod x d) x own)
+  lift-kept add v x = mod-sum d (pow-pos b) (floorMod x d) x v (again x)
+  lift-kept subtract v x = mod-sum d (pow-pos b) (floorMod x d) x (negℤ v) (again x)
+  lift-kept negate v x = mod-sum d (pow-pos b) (negℤ (floorMod x d)) (negℤ x) v (mod-neg d (pow-pos b) (floorMod x d) x (again x))
 
   wrapped-reversible : Reversible (kept Wrapped b)
   wrapped-reversible = record {
     undoes = λ k v x. lift-kept (opposite k) v (lift k v x) ∙ ap (λ (z : ℤ). floorMod z d) (lift-undone k v x);
-    again = λ x. floorMod-own d (pow-pos b) (floorMod x d) (floorMod-in d (pow-pos b) x);
+    again = again;
     zero = floorMod-own d (pow-pos b) (pos 0) (in-zero 0 (d - 1));
   }
 

@@ -7,7 +7,7 @@ use lib.Pow.{pow-pos, pow-add}
 use lib.ListN.{getD, take}
 use Rattle.integers.specs.Lists.{AllIn}
 use Rattle.stage.specs.Settings.{Settings, Plain, Depths, each}
-use Rattle.stage.specs.Planes.{C3, Triple, Planes, triple}
+use Rattle.stage.specs.Planes.{C3, Triple, triple}
 use Rattle.stage.specs.Steps.{Step, transforms, YCoCg-R, steps, run}
 use Rattle.stage.specs.Ranges.{Range, ranges, sampleRange, sampleRanges, finishedRanges, rangeRow, rangeTable, depthTable, threeRows, InRanges}
 use Rattle.stage.specs.Transform.{setup}

@@ -1,7 +1,7 @@
 -- Cases of the wrapped forms (02, request 9). Those that the paper does not give are calculated by hand, as their comments show.
 use mathlib.Core.List.{List, [], _∷_}
 use Prim.Native.Nat.{ℕ}
-use lib.IntN.{ℤ, pos, negsuc}
+use lib.IntN.{pos}
 use Rattle.integers.specs.Parts.{floorMod}
 use Rattle.stage.specs.Settings.{Depths, depthsOf, each, settingsOf, Wrapped}
 use Rattle.stage.specs.Planes.{Planes, triple}

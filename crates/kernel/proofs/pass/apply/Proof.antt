@@ -1,7 +1,6 @@
 use borrow.Author.Needs.{needs}
 use mathlib.Core.Path.{_≡_, sym, ap, ap₂, _∙_}
 use Prim.Native.Nat.{ℕ, _-_, _/_, _^_}
-use native.Mathlib.Omega.{arith}
 use lib.Bits.{bitAnd}
 use lib.Dec.{lit≤, lit<}
 use lib.IntN.{ℤ, pos}
@@ -10,9 +9,8 @@ use mir.Val.{SFits, ofZ, toZ}
 use mir.Facts.{toZ-ofZ}
 use Rattle.integers.specs.Parts.{floorMod}
 use Rattle.integers.proofs.Ranges.{in-fits, toZ-nat}
-use Rattle.stage.specs.declared.Form.{Form}
-use Rattle.kernel.specs.Pass.{keptPass, made, applied}
-use Rattle.kernel.proofs.LowBits.{depth-mask, depth-bits, small-depth}
+use Rattle.kernel.specs.Pass.{made, applied}
+use Rattle.kernel.proofs.LowBits.{depth-bits, small-depth}
 use Rattle.kernel.proofs.pass.apply.Statement.{statement}
 use Rattle.kernel.proofs.pass.apply.Tie as tie
 

@@ -8,9 +8,8 @@ use mir.Syntax.{w32}
 use mir.Val.{SFits, ofZ, toZ}
 use mir.Facts.{toZ-ofZ}
 use Rattle.integers.specs.Parts.{In, floorDiv, floorMod}
-use Rattle.integers.proofs.Ranges.{in-wider, in-fits, in-floorDiv}
+use Rattle.integers.proofs.Ranges.{in-wider, in-fits}
 use Rattle.kernel.specs.Pass.{made}
-use Rattle.kernel.specs.Window.{ValueIn}
 use Rattle.kernel.proofs.LowBits.{LowOperands, low-add, low-subtract, low-negate, low-add-half, low-subtract-half, made-in}
 use Rattle.kernel.proofs.pass.wrapped_result.Statement.{statement}
 use Rattle.kernel.proofs.pass.wrapped_result.Tie as tie

@@ -1,4 +1,3 @@
-use borrow.Author.Needs.{needs}
 use Rattle.lifting.proofs.steps.kept_pass.Statement.{statement}
 use Rattle.lifting.proofs.steps.kept_pass.Tie as tie
 
