@@ -27,6 +27,6 @@ within below above z = leb (negPart z) below && leb (posPart z) above
 abbrev pub floorDiv : ℤ → ℕ → ℤ
 floorDiv z d = shrZ z d
 
--- z modulo d, as 0 to d − 1: what is left of z less d times floorDiv z d
+-- z modulo d, as 0 to d − 1: what floor division by d leaves of z
 unfoldable pub floorMod : ℤ → ℕ → ℤ
 floorMod z d = z -ℤ pos d *ℤ floorDiv z d
