@@ -10,8 +10,9 @@ use lib.IntN.{ℤ, pos, _+ℤ_, _*ℤ_}
 use Rattle.integers.specs.Lists.{at}
 use Rattle.integers.proofs.Linear.{flat, count, eq-lin}
 use Rattle.stage.specs.Filter.{weight, weightSum, weightedSum, windowSample, roundedMean, mean}
+use Rattle.stage.proofs.Windows.{weightSum-same, weightedSum-same}
 use Rattle.kernel.specs.Window.{neighbourSum, rowSum, windowWeight, windowMean}
-use Rattle.kernel.proofs.Windows.{indicatorAt, Neighbourhood, window-weight, window-sample, weightSum-same, weightedSum-same}
+use Rattle.kernel.proofs.Windows.{indicatorAt, Neighbourhood, window-weight, window-sample}
 
 -- an indicator times one of two numbers that are the same where it is 1
 times-same : (b : ℕ) (x y : ℤ) → b ≤ 1 → (1 ≤ b → x ≡ y) → pos b *ℤ x ≡ pos b *ℤ y
@@ -106,7 +107,8 @@ module _ {w h x y left right above below : ℕ} (s : Neighbourhood w h x y left 
 
   sum-is : weightedSum (weight w h (k + 1) i) g 9 ≡ rows
   sum-is =
-      weightedSum-same (weight w h (k + 1) i) (indicated left right above below k) g 9 (window-weight (k + 1) s)
+      weightedSum-same (weight w h (k + 1) i) (indicated left right above below k) g g 9
+      (λ n l. ap (λ (m : ℕ). pos m *ℤ g n) (window-weight (k + 1) s n l))
       ∙ indicated-sum left right above below k g
       ∙ ap₂ _+ℤ_
       (ap₂ _+ℤ_ (ap₂ _+ℤ_ own-row (ap (λ (z : ℤ). pos k *ℤ z) centre-sample))
@@ -116,7 +118,7 @@ module _ {w h x y left right above below : ℕ} (s : Neighbourhood w h x y left 
   mean-by-rows : {centre : ℕ} → centre ≡ k + 1 → roundedMean rows (windowWeight left right above below centre) ≡ mean w h centre a i
   unfolding mean
   mean-by-rows e =
-      let same = weightSum-same (weight w h (k + 1) i) (indicated left right above below k) g 9 (window-weight (k + 1) s) in
+      let same = weightSum-same (weight w h (k + 1) i) (indicated left right above below k) 9 (window-weight (k + 1) s) in
       rw e (sym (ap₂ roundedMean sum-is (same ∙ indicated-weight left right above below k)))
 
 -- ---- the interior

@@ -1,5 +1,5 @@
 -- The definition's window at column x and row y: the weight and the sample of each position.
-use mathlib.Core.Path.{_≡_, refl, ap₂, _∙_}
+use mathlib.Core.Path.{_≡_, ap, ap₂, _∙_}
 use mathlib.Core.Logic.{_⊎_, inl, inr}
 use mathlib.Core.Bool.{Bool, true, false, cond, _&&_}
 use mathlib.Core.List.{List}
@@ -10,9 +10,10 @@ use borrow.Author.Tests.{lt-leb, le-leb, eq-eqb, ne-eqb}
 use lib.Arith.{digits-div, digits-mod}
 use lib.Dec.{leb, eqb}
 use lib.ListN.{getD}
-use lib.IntN.{ℤ, _+ℤ_}
+use lib.IntN.{ℤ}
 use Rattle.integers.specs.Lists.{at}
-use Rattle.stage.specs.Filter.{weight, weightSum, weightedSum, windowSample, mean, centreWeights, filtered}
+use Rattle.stage.specs.Filter.{weight, windowSample, mean, centreWeights, filtered}
+use Rattle.stage.proofs.Windows.{window-index}
 use Rattle.kernel.specs.Window.{pointwise, Indicator}
 
 -- e is 1 where column or row p, counted from 1, is one of n, and else 0
@@ -70,17 +71,7 @@ module _ {w h x y left right above below : ℕ} (centre : ℕ) (s : Neighbourhoo
       ∙ ap₂ (λ (m n : ℕ). m * (n * v)) (present-test q) (present-test p))
 
   pub window-sample : (a : List ℤ) → windowSample w a (y * w + x) k ≡ at a ((y + k / 3 - 1) * w + (x + k % 3 - 1))
-  window-sample a = rw (digits-div y (s .column), digits-mod y (s .column))
-
--- sums of equal weights
-module _ (f g : ℕ → ℕ) (s : ℕ → ℤ) where
-  pub weightSum-same : (n : ℕ) → ((k : ℕ) → k < n → f k ≡ g k) → weightSum f n ≡ weightSum g n
-  weightSum-same zero e = omega arith
-  weightSum-same (suc n) e = let i = weightSum-same n (λ k l. e k (omega arith)) in let j = e n (omega arith) in omega arith
-
-  pub weightedSum-same : (n : ℕ) → ((k : ℕ) → k < n → f k ≡ g k) → weightedSum f s n ≡ weightedSum g s n
-  weightedSum-same zero e = refl
-  weightedSum-same (suc n) e = ap₂ _+ℤ_ (weightedSum-same n (λ k l. e k (omega arith))) (rw (e n (omega arith)))
+  window-sample a = ap (at a) (window-index y (s .column) k)
 
 -- ---- the thirteen filters
 module _ (w h filter : ℕ) (a : List ℤ) (i : ℕ) where

@@ -69,6 +69,14 @@ module _ {A M : Type 0} (v : A) (result before : M) where
       go zero e = refl
       go (suc n) e = let d : refused (suc n) ≡ done u = rw (eqb·suc-zero n) at e in let z : _≡_ {A = ℕ} 0 1 = cc in absurd (omega arith)
 
+  -- a call that answers a refusal leaves what it was lent
+  pub refused-lent : (l : List Test) (n : ℕ) (after : M) → outcome l v result before ≡ record { reply = refused n; memory = after } → after ≡ before
+  refused-lent l n after e = go (refusal l) (ap (λ (o : Outcome A M). o .reply) e) (ap (λ (o : Outcome A M). o .memory) e)
+    where
+      go : (k : ℕ) → cond (eqb k 0) (done v) (refused k) ≡ refused n → cond (eqb k 0) result before ≡ after → after ≡ before
+      go zero f m = let z : _≡_ {A = ℕ} 0 1 = cc in absurd (omega arith)
+      go (suc k) f m = sym (rw eqb·suc-zero at m)
+
   pub outcome-iff : (l : List Test) → Numbered l → (after : M) → (outcome l v result before ≡ record { reply = done v; memory = after }) ↔ (Holds l × (result ≡ after))
   outcome-iff l k after = (
     λ e. let z : refusal l ≡ 0 = done-refusal l v (ap (λ (o : Outcome A M). o .reply) e) in

@@ -2,6 +2,7 @@ pub mod Triples
 pub mod Reversal
 pub mod StepLists
 pub mod Means
+pub mod Windows
 pub mod StepRanges
 pub mod Forms
 pub mod RangeTable

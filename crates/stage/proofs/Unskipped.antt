@@ -16,7 +16,7 @@ use Rattle.stage.specs.Filter.{filtered}
 use Rattle.stage.specs.Steps.{Setup, Step, Term, Lifting, add, subtract, negate, _ᵈ_, _⊕_, _/2, _/4, value, allNull, skipped, lift, lifted, opposite, reversed, step, run, undo, steps}
 use Rattle.stage.specs.Transform.{setup, transformed, untransformed}
 use Rattle.stage.specs.NullSteps.{negates, NoNullNegation, unskipped, SkipsMatterOnlyInNegation, FirstTwoUnaffected}
-use Rattle.stage.proofs.Setups.{same-filters, value-same}
+use Rattle.stage.proofs.Setups.{value-same, same-filters, same-term}
 
 pub lift-nothing : (k : Lifting) (z : ℤ) → T (not (negates k)) → lift k (pos 0) z ≡ z
 lift-nothing add z h = eq-lin (simp flat (simp count (omega arith)))
@@ -32,7 +32,8 @@ module _ (σ : Setup) (unchanged : (z : ℤ) → σ .keep z ≡ z) (p : Planes) 
   null-value (t /4) i n = ap (λ (z : ℤ). floorDiv z 4) (null-value t i n)
 
   pub unskipped-value : (t : Term) (i : ℕ) → value (unskipped σ) p t i ≡ value σ p t i
-  unskipped-value t i = value-same (unskipped σ) σ refl refl p t i (same-filters (unskipped σ) σ (λ k i. refl) t i)
+  unskipped-value t i =
+      value-same (unskipped σ) σ p p i i t (same-term (unskipped σ) σ refl refl p t i (same-filters (unskipped σ) σ (λ k i. refl) t i))
 
   -- a step that does not negate where it is null makes the same of a sample, skipped or not
   pub lifted-unskipped : (x : Step) (i : ℕ) (z : ℤ) → T (not (negates (x .lifting) && allNull σ (x .term) i)) → lifted σ p x i z ≡ lift (x .lifting) (value σ p (x .term) i) z

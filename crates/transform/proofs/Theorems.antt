@@ -22,11 +22,11 @@ use Rattle.stage.proofs.WrappedForms.{wrapped-refuses-outside}
 use Rattle.stage.proofs.NullSteps.{nulls-leave-pictures}
 use Rattle.transform.specs.Calls.{ForwardThenInverse, InverseThenForward, CallsDemand3, CallsMeetDemand3, CallsLeaveNulls, NeverWidens, CallsNeverWiden}
 
-done-is : (r : Answer) → replyOf r ≡ done tt → r ≡ Done
+pub done-is : (r : Answer) → replyOf r ≡ done tt → r ≡ Done
 done-is Done e = refl
 done-is (Refused n) e = let z : _≡_ {A = ℕ} 0 1 = cc in absurd (omega arith)
 
-refused-is : (r : Answer) (n : ℕ) → replyOf r ≡ refused n → r ≡ Refused n
+pub refused-is : (r : Answer) (n : ℕ) → replyOf r ≡ refused n → r ≡ Refused n
 refused-is Done n e = let z : _≡_ {A = ℕ} 0 1 = cc in absurd (omega arith)
 refused-is (Refused m) n e = cc
 

@@ -57,7 +57,7 @@ module _ (s : Settings) (φ : List ℕ) (k f : ℕ) where
   before : (x : Step) (l : List Step) (n : ℕ) (p : Planes) → ((q : Planes) → run τ (take n l) q ≡ run σ (take n l) q) → (b : Bool) → hasPlace (x .term) k ≡ b
       → run τ (take (cond b 0 (suc n)) (x ∷ l)) p ≡ run σ (take (cond b 0 (suc n)) (x ∷ l)) p
   before x l n p h true e = refl
-  before x l n p h false e = ap (run τ (take n l)) (step-same τ σ refl refl p refl refl x (same-places (x .term) e)) ∙ h (step σ x p)
+  before x l n p h false e = ap (run τ (take n l)) (step-same τ σ refl refl p refl (λ z. refl) x (same-places (x .term) e)) ∙ h (step σ x p)
 
   pub run-before : (l : List Step) (p : Planes) → run τ (take (stepOf l k) l) p ≡ run σ (take (stepOf l k) l) p
   run-before [] p = refl

@@ -1,0 +1,4 @@
+pub mod Reach
+pub mod Parts
+pub mod Locality
+pub mod LocalityCases
