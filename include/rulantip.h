@@ -32,6 +32,14 @@
    are about the plain forms. Nothing in the planes tells their form: bring them back by the inverse of
    the same form, with the same choices. The other inverse may refuse them or leave another picture.
 
+   HOW FAR A NUMBER LOOKS. What a picture goes to at a pixel depends only on the samples at most d rows
+   and d columns away, d being 1 for RDgDb, 2 for RCT, 3 for LDgEb and 4 for YCoCg-R, in all three
+   planes and both forms: two pictures that agree there have the same numbers at the pixel, whatever
+   stands elsewhere. Back, d is 2 for every transform: a damaged number, where the inverse still
+   accepts, spoils only the pixels at most 2 rows and 2 columns away. A part of a picture, transformed
+   by itself with the same choices, has the whole picture's numbers at every pixel with d pixels of the
+   part between it and each side that was cut; the picture's own border is no cut.
+
    WHAT THE CALLER OWES, and no call can test:
    - Each pointer points to as many elements as the length after it says. For length 0 any pointer
      will do, also a null pointer.

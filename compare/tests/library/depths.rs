@@ -100,7 +100,7 @@ fn planes_of_a_picture_past_its_depths() {
             deep.planes[plane][index] = random.between(1 << own.settings.depths[plane], (1 << depth) - 1) as i32;
             let (answer, finished) = deep.forward();
             assert_eq!(answer, 0, "{deep}");
-            let back = Case { planes: finished, ..deep.clone() };
+            let back = deep.with(finished);
             back.inverse_as(Ok(deep.planes));
             Case { settings: own.settings, ..back }.inverse_as(Err(12));
         }

@@ -1,6 +1,6 @@
 //! The inverse on planes of every kind: reached by a picture, almost, and far from it.
 
-use crate::random::{self, each_round, Random};
+use crate::random::{self, each_round, sample, Random};
 use crate::same::Case;
 use compare::reference::{places, ranges, undo, window, Form, Interval, Settings, TRANSFORMS};
 
@@ -8,13 +8,6 @@ use compare::reference::{places, ranges, undo, window, Form, Interval, Settings,
 fn reached(random: &mut Random, origin: &str) -> Case {
     let case = random::case(random, origin);
     Case { planes: case.forward().1, ..case }
-}
-
-/// A random sample of a case's planes.
-fn sample<'a>(random: &mut Random, case: &'a mut Case) -> &'a mut i32 {
-    let plane = &mut case.planes[random.below(3)];
-    let index = random.below(plane.len());
-    &mut plane[index]
 }
 
 #[test]

@@ -14,6 +14,7 @@ mod estimates;
 mod faults;
 mod inverses;
 mod lent;
+mod locality;
 mod pixmaps;
 mod random;
 mod refusals;

@@ -175,3 +175,10 @@ pub fn case_without_scratch(random: &mut Random, settings: Settings, origin: &st
         origin: origin.to_string(),
     }
 }
+
+/// A random sample of a case's planes.
+pub fn sample<'a>(random: &mut Random, case: &'a mut Case) -> &'a mut i32 {
+    let plane = &mut case.planes[random.below(3)];
+    let index = random.below(plane.len());
+    &mut plane[index]
+}

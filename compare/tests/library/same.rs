@@ -40,6 +40,11 @@ impl Case {
         self.settings.width as usize * self.settings.height as usize
     }
 
+    /// The case with other planes.
+    pub fn with(&self, planes: [Vec<i32>; 3]) -> Case {
+        Case { planes, ..self.clone() }
+    }
+
     /// The case for the wrapped forms: the deepest of its depths for all planes, and no scratch.
     pub fn wrapped(&self) -> Case {
         let deepest = self.settings.depths.into_iter().max().unwrap();

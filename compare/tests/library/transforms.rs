@@ -9,8 +9,7 @@ use compare::reference::{greatest, places, Settings, TRANSFORMS};
 fn there_and_back(case: &Case) {
     let (answer, finished) = case.forward();
     assert_eq!(answer, 0, "{case}");
-    let back = Case { planes: finished, ..case.clone() };
-    back.inverse_as(Ok(case.planes.clone()));
+    case.with(finished).inverse_as(Ok(case.planes.clone()));
     wrapped::both_ways(&case.wrapped());
 }
 

@@ -9,15 +9,10 @@ use compare::reference::{all_depths, greatest, places, Settings, TRANSFORMS};
 pub fn both_ways(case: &Case) {
     let (answer, finished) = case.forward_wrapped();
     assert_eq!(answer, 0, "{case}");
-    assert_eq!(with(case, finished).inverse_wrapped(), (0, case.planes.clone()), "{case}");
+    assert_eq!(case.with(finished).inverse_wrapped(), (0, case.planes.clone()), "{case}");
     let (answer, picture) = case.inverse_wrapped();
     assert_eq!(answer, 0, "{case}");
-    assert_eq!(with(case, picture).forward_wrapped(), (0, case.planes.clone()), "{case}");
-}
-
-/// The case with other planes.
-fn with(case: &Case, planes: [Vec<i32>; 3]) -> Case {
-    Case { planes, ..case.clone() }
+    assert_eq!(case.with(picture).forward_wrapped(), (0, case.planes.clone()), "{case}");
 }
 
 /// A case of that size, depth and transform.
@@ -66,7 +61,7 @@ fn every_depth() {
                 let mut case = case_of(random, size, depth, transform, origin);
                 case.set_nulls(random.below(16) as u32, || random.below(13) as u8);
                 both_ways(&case);
-                both_ways(&with(&case, noise(random, &case)));
+                both_ways(&case.with(noise(random, &case)));
             }
         });
     });
@@ -153,9 +148,9 @@ fn nothing_to_wrap() {
             let (_, plain) = case.forward();
             assert!(plain.iter().flatten().all(|number| (0..=m).contains(number)), "{case}");
             assert_eq!(case.forward_wrapped(), (0, plain.clone()), "{case}");
-            let finished = with(&case, plain);
+            let finished = case.with(plain);
             assert_eq!(finished.inverse_wrapped(), finished.inverse(), "{case}");
-            let zeros = with(&case, [(); 3].map(|()| vec![0; 42]));
+            let zeros = case.with([(); 3].map(|()| vec![0; 42]));
             assert_eq!(zeros.forward_wrapped(), zeros.forward(), "{zeros}");
         });
     });

@@ -8,7 +8,7 @@ use Rattle.stage.specs.declared.Plane.{Plane}
 use Rattle.stage.specs.declared.Plane.the-variants.{C1, C2, C3}
 use Rattle.stage.specs.Planes.{Triple, get}
 use Rattle.stage.specs.Steps.{Setup, steps}
-use Rattle.locality.specs.Reach.{radius, Looks, oneAround, Way, there, back, reachAlong, none, furthest, distance}
+use Rattle.locality.specs.Reach.{Looks, oneAround, Way, there, back, reachAlong, none, furthest, distance}
 use Rattle.locality.specs.Locality.{ReachTable, TransformCutOut, TransformLocal, DamageStays}
 use Rattle.locality.proofs.Parts.{spot-less}
 use Rattle.locality.proofs.CutOuts.{cut-out-same}

@@ -1,5 +1,5 @@
 -- Two pictures that share a part: after steps it is the same as deep as these look. By terms, by steps, and by one induction over a list of steps each way.
-use mathlib.Core.Path.{_≡_, ap, sym, _∙_, subst}
+use mathlib.Core.Path.{ap, sym, _∙_, subst}
 use mathlib.Core.List.{List, [], _∷_}
 use Prim.Native.Nat.{ℕ, _+_, _≤_}
 use native.Mathlib.Nat.{le-refl}

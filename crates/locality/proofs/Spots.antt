@@ -2,9 +2,7 @@
 use mathlib.Core.Path.{_≡_, refl}
 use Prim.Native.Nat.{ℕ, _+_, _-_, _≤_, _<_, min}
 use native.Mathlib.Omega.{arith}
-use Rattle.stage.specs.declared.Plane.{Plane}
 use Rattle.stage.specs.Planes.{Planes, get}
-use Rattle.stage.specs.Steps.{Setup}
 use Rattle.locality.specs.Reach.{none, reachAlong}
 use Rattle.locality.specs.Parts.{Corner, Deep, Fits, DeepSpot, apart, Near, AgreeNear, AgreeElsewhere}
 use Rattle.locality.specs.Locality.{PlanesLocal}

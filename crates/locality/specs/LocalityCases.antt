@@ -1,7 +1,7 @@
 -- Cases of filters' radii and of a picture cut out of a picture, by hand.
 use mathlib.Core.List.{List, [], _∷_, map}
 use Prim.Native.Nat.{ℕ}
-use lib.IntN.{ℤ, pos}
+use lib.IntN.{pos}
 use Rattle.stage.specs.declared.Form.the-variants.{Plain}
 use Rattle.stage.specs.Settings.{each, settingsOf}
 use Rattle.stage.specs.Planes.{Planes, triple}

@@ -1,6 +1,6 @@
 -- How far steps look (02, request 10), computed from the steps as ranges are. r is a reach for each plane: its number at a spot depends on
 -- what stood at most so many rows and columns around the spot. ρ k is how far the filter of place k looks.
-use mathlib.Core.Bool.{Bool, cond, _||_}
+use mathlib.Core.Bool.{cond, _||_}
 use mathlib.Core.List.{List, [], _∷_}
 use Prim.Native.Nat.{ℕ, _+_, _≤_, max}
 use lib.Dec.{eqb}
@@ -13,7 +13,7 @@ use Rattle.stage.specs.Steps.{Setup, Step, Term, _ᵈ_, _⊕_, _/2, _/4, run, u
 abbrev pub radius : ℕ → ℕ
 radius f = cond (eqb f 0 || eqb f 12) 0 1
 
--- no filter of place k looks further than ρ k; and what holds for all filters
+-- no filter of place k looks further than ρ k; and one row and column around, further than which no filter looks
 abbrev pub Looks : (ρ : ℕ → ℕ) → Setup → Type 0
 Looks ρ σ = (k i : ℕ) → radius (σ .filter k i) ≤ ρ k
 
@@ -40,7 +40,7 @@ abbrev pub undoneReaches : (ρ : ℕ → ℕ) → List Step → Triple ℕ → T
 undoneReaches ρ [] r = r
 undoneReaches ρ (s ∷ l) r = stepReach ρ (reversed s) (undoneReaches ρ l r)
 
--- The two ways through a list of steps: they are run, or undone. Where each leads, and how far each plane then looks.
+-- The two ways through a list of steps: it is run, or undone. What each makes of planes, and how far each plane then looks.
 pub data Way : Type 0 where
   there back : Way
 

@@ -1,5 +1,5 @@
 -- What the calls leave at a spot, from their promises.
-use mathlib.Core.Path.{_≡_, refl, sym, ap, ap₂, _∙_, subst}
+use mathlib.Core.Path.{_≡_, sym, ap, ap₂, _∙_}
 use mathlib.Core.Bool.{Bool, true}
 use mathlib.Core.List.{List, [], _∷_, _++_}
 use Prim.Native.Nat.{ℕ, _<_}
@@ -9,10 +9,9 @@ use Rattle.stage.specs.declared.Answer.{Answer}
 use Rattle.stage.specs.declared.Answer.the-variants.{Done, Refused}
 use Rattle.stage.specs.declared.Settings.{Settings}
 use Rattle.stage.specs.declared.Form.{Form}
-use Rattle.stage.specs.declared.Plane.{Plane}
 use Rattle.stage.specs.declared.Plane.the-variants.{C1, C2, C3}
 use Rattle.stage.specs.Answers.{Reply, _else_, answer, Outcome, replyOf}
-use Rattle.stage.specs.Planes.{Triple, Planes, get, triple}
+use Rattle.stage.specs.Planes.{Triple, Planes, triple}
 use Rattle.stage.specs.Ranges.{sampleRanges}
 use Rattle.stage.specs.Steps.{steps}
 use Rattle.stage.specs.Transform.{choicesFit, lengths, settingsTests, setup, transformed, untransformed, HasSize, Picture, isPicture, reachable, unreachable, forward, inverse}
@@ -20,11 +19,10 @@ use Rattle.stage.proofs.Answers.{refused-lent}
 use Rattle.stage.proofs.Forms.{same-size}
 use Rattle.stage.proofs.Demand3.{withinRanges-iff, undone, forward-iff, inverse-iff}
 use Rattle.locality.specs.Reach.{Way, there, back, along, distance}
-use Rattle.locality.specs.Parts.{pixelIndex, SamePixel, AgreeNear, Near}
+use Rattle.locality.specs.Parts.{pixelIndex, SamePixel, AgreeNear}
 use Rattle.locality.proofs.Spots.{agree-away}
 use Rattle.locality.proofs.Distances.{transform-local, transform-cut-out}
-use Rattle.transform.specs.Calls.{ForwardGives, InverseGives}
-use Rattle.transform.specs.LocalCalls.{CallGives, LocalCalls, CallsLocal, PicturesAnsweredAlike, CallsCutOut}
+use Rattle.transform.specs.LocalCalls.{CallGives, CallsLocal, PicturesAnsweredAlike, CallsCutOut}
 use Rattle.transform.proofs.Theorems.{done-is, refused-is}
 
 -- ---- what a call has done
