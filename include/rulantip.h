@@ -32,8 +32,8 @@
    are about the plain forms. Nothing in the planes tells their form: bring them back by the inverse of
    the same form, with the same choices. The other inverse may refuse them or leave another picture.
 
-   HOW FAR A NUMBER LOOKS. What a picture goes to at a pixel depends only on the samples at most d rows
-   and d columns away, d being 1 for RDgDb, 2 for RCT, 3 for LDgEb and 4 for YCoCg-R, in all three
+   WHAT A NUMBER DEPENDS ON. A picture's finished numbers at a pixel depend only on the samples at most d
+   rows and d columns away, d being 1 for RDgDb, 2 for RCT, 3 for LDgEb and 4 for YCoCg-R, in all three
    planes and both forms: two pictures that agree there have the same numbers at the pixel, whatever
    stands elsewhere. Back, d is 2 for every transform: a damaged number, where the inverse still
    accepts, spoils only the pixels at most 2 rows and 2 columns away. A part of a picture, transformed

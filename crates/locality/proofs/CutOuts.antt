@@ -10,20 +10,15 @@ use lib.ListN.{length, take, drop, replicate, length-replicate}
 use Rattle.integers.specs.Lists.{at}
 use Rattle.integers.proofs.Lists.{length-mapIndexed, at-mapped}
 use Rattle.stage.specs.declared.Plane.{Plane}
-use Rattle.stage.specs.declared.Plane.the-variants.{C1, C2, C3}
-use Rattle.stage.specs.Planes.{Triple, Planes, get, mapTriple}
+use Rattle.stage.specs.Planes.{Planes, get}
 use Rattle.stage.specs.Steps.{Setup, run}
+use Rattle.stage.proofs.Triples.{get-map}
 use Rattle.stage.proofs.Reversal.{run-length}
 use Rattle.stage.proofs.StepLists.{run-rest}
 use Rattle.locality.specs.Reach.{there, none}
 use Rattle.locality.specs.Parts.{Corner, index, cutIndex, cutSetup, cutPlane, cutOut}
 use Rattle.locality.specs.Locality.{CutOutSame, CutOutFromStep}
 use Rattle.locality.proofs.SharedPart.{shared-part}
-
-get-map : {A B : Type 0} (f : A → B) (t : Triple A) (c : Plane) → get (mapTriple f t) c ≡ f (get t c)
-get-map f t C1 = refl
-get-map f t C2 = refl
-get-map f t C3 = refl
 
 -- a cut-out has the part's size, and at its column x and row y what stands there in the part
 module _ (σ : Setup) (a : Corner) (u v : ℕ) where
@@ -44,12 +39,12 @@ module _ (σ : Setup) (a : Corner) (u v : ℕ) where
 
 -- the part is the whole cut-out, and none of its sides is a cut there
 pub cut-out-same : CutOutSame
-cut-out-same way ρ σ looks a u v f l p m c x y h =
+cut-out-same way ρ σ radii a u v f l p m c x y h =
     let τ = cutSetup σ a u v in
     let o : Corner = record { left = 0; top = 0 } in
     let e : (x y : ℕ) → index τ o x y ≡ y * u + x = λ x y. rw (zero-add x, zero-add y) in
     rw (← e x y)
-    (shared-part way ρ u v τ σ o a (λ k i. looks k _)
+    (shared-part way ρ u v τ σ o a (λ k i. radii k _)
     (record {
       first = omega arith;
       second = f;
@@ -62,6 +57,6 @@ cut-out-same way ρ σ looks a u v f l p m c x y h =
     c x y (record { column = omega arith; row = omega arith }) h)
 
 pub cut-out-from-step : CutOutFromStep
-cut-out-from-step ρ σ looks a u v f l n p m c x y h =
-    cut-out-same there ρ σ looks a u v f (drop n l) (run σ (take n l) p) (λ c. run-length σ (take n l) p c ∙ m c) c x y h
+cut-out-from-step ρ σ radii a u v f l n p m c x y h =
+    cut-out-same there ρ σ radii a u v f (drop n l) (run σ (take n l) p) (λ c. run-length σ (take n l) p c ∙ m c) c x y h
     ∙ ap (λ (q : Planes). at (get q c) (index σ a x y)) (run-rest σ n l p)

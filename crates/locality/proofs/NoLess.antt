@@ -24,7 +24,7 @@ use Rattle.stage.specs.Transform.{transformed, untransformed, forward, inverse}
 use Rattle.stage.proofs.Triples.{put-both}
 use Rattle.locality.specs.Reach.{Way, there, back, distance}
 use Rattle.locality.specs.Parts.{SamePixel, apart, Near}
-use Rattle.locality.specs.Locality.{call, LooksFurther, NoLess}
+use Rattle.locality.specs.Locality.{call, ReachesFurther, NoLess}
 
 -- n numbers g and then z
 abbrev line : ℕ → ℤ → ℤ → List ℤ
@@ -75,7 +75,7 @@ module _ (way : Way) (κ : Form) (t : ℕ) (e c : Plane) (some : 0 < distance wa
       × T (ltb 0 (apart (posPart (left s 0)) (posPart (left s 648)) + apart (negPart (left s 0)) (negPart (left s 648))))
 
   further : (s : Settings) → Seen s → ((x y : ℕ) → x < s .width → y < s .height → Near (distance way t - 1) 0 0 x y → y * s .width + x < distance way t)
-      → LooksFurther way κ s (distance way t - 1)
+      → ReachesFurther way κ s (distance way t - 1)
   further s h nearer = record {
     choices = ones;
     first = planes 0;
@@ -93,7 +93,7 @@ module _ (way : Way) (κ : Form) (t : ℕ) (e c : Plane) (some : 0 < distance wa
   abbrev column : Settings
   column = settingsOf 1 (suc (distance way t)) (each 16) t
 
-  both : Seen row → Seen column → LooksFurther way κ row (distance way t - 1) × LooksFurther way κ column (distance way t - 1)
+  both : Seen row → Seen column → ReachesFurther way κ row (distance way t - 1) × ReachesFurther way κ column (distance way t - 1)
   both r s = (
     further row r (λ x y i j n. omega (arith, n .columns, mul-le-mul-right {m = y} {n = 0} (suc (distance way t)) (omega arith))),
     further column s (λ x y i j n. omega (arith, n .rows)),

@@ -1,4 +1,5 @@
--- Two pictures that share a part: after steps it is the same as deep as these look. By terms, by steps, and by one induction over a list of steps each way.
+-- Two pictures that share a part: after steps it is the same where the margin is as wide as these reach. By terms, by steps, and by one induction over a
+-- list of steps each way.
 use mathlib.Core.Path.{ap, sym, _∙_, subst}
 use mathlib.Core.List.{List, [], _∷_}
 use Prim.Native.Nat.{ℕ, _+_, _≤_}
@@ -12,10 +13,10 @@ use Rattle.stage.specs.Steps.{Setup, Step, Term, _ᵈ_, _⊕_, _/2, _/4, lifted
 use Rattle.stage.proofs.Triples.{put-both, put-get, get-put}
 use Rattle.stage.proofs.Reversal.{step-length, undo-length}
 use Rattle.stage.proofs.Setups.{SameTerm, lifted-same}
-use Rattle.locality.specs.Reach.{Looks, termReach, stepReach, reaches, undoneReaches, there, back}
-use Rattle.locality.specs.Parts.{Sized, Corner, index, DeepSpot, SameChoices, SameDeep, SamePart}
+use Rattle.locality.specs.Reach.{RadiiUpTo, termReach, stepReach, reaches, undoneReaches, there, back}
+use Rattle.locality.specs.Parts.{Sized, Corner, index, SpotMargin, SameSetup, SameWithMargin, SamePart}
 use Rattle.locality.specs.Locality.{SharedPart}
-use Rattle.locality.proofs.Parts.{spot-less, spot-below, filtered-same}
+use Rattle.locality.proofs.Parts.{spot-lesser, spot-below, filtered-same}
 
 -- a step makes no reach less
 step-further : (ρ : ℕ → ℕ) (s : Step) (r : Triple ℕ) (c : Plane) → get r c ≤ get (stepReach ρ s r) c
@@ -23,15 +24,15 @@ step-further ρ s r =
     subst (λ (q : Triple ℕ). (c : Plane) → get q c ≤ get (stepReach ρ s r) c) (put-get r (s .plane))
     (put-both (λ _ (m n : ℕ). m ≤ n) r r (λ c. le-refl (get r c)) (get r (s .plane)) _ (s .plane) (omega arith))
 
-module _ (ρ : ℕ → ℕ) (u v : ℕ) (σ τ : Setup) (a b : Corner) (looks : Looks ρ σ) (C : SameChoices u v σ τ a b) where
-  -- at a spot as deep as the term looks
-  module _ (r : Triple ℕ) (p q : Planes) (same : SamePart u v σ τ a b r p q) (d x y : ℕ) (h : DeepSpot u v σ a d x y) (k : DeepSpot u v τ b d x y) where
+module _ (ρ : ℕ → ℕ) (u v : ℕ) (σ τ : Setup) (a b : Corner) (radii : RadiiUpTo ρ σ) (C : SameSetup u v σ τ a b) where
+  -- at a spot with a margin as wide as the term reaches
+  module _ (r : Triple ℕ) (p q : Planes) (same : SamePart u v σ τ a b r p q) (d x y : ℕ) (h : SpotMargin u v σ a d x y) (k : SpotMargin u v τ b d x y) where
     term-same : (t : Term) → termReach ρ r t ≤ d → SameTerm σ τ p q (index σ a x y) (index τ b x y) t
     term-same (c ᵈ n) l =
         let e = C .filter n x y (h .column .here) (h .row .here) in
         let m : get r c + ρ n ≤ d = omega arith in (
           e,
-          filtered-same (C .first) (C .second) (get p c) (get q c) (same c) (σ .filter n (index σ a x y)) (ρ n) (looks n (index σ a x y)) (spot-less m h) (spot-less m k)
+          filtered-same (C .first) (C .second) (get p c) (get q c) (same c) (σ .filter n (index σ a x y)) (ρ n) (radii n (index σ a x y)) (spot-lesser m h) (spot-lesser m k)
               ∙ ap (λ (f : ℕ). filtered (τ .width) (τ .height) f (get q c) (index τ b x y)) e,
         )
     term-same (t ⊕ w) l = (term-same t (omega arith), term-same w (omega arith))
@@ -41,9 +42,9 @@ module _ (ρ : ℕ → ℕ) (u v : ℕ) (σ τ : Setup) (a b : Corner) (looks : 
   step-same : (s : Step) (r : Triple ℕ) (p q : Planes) → Sized σ p → Sized τ q → SamePart u v σ τ a b r p q
       → SamePart u v σ τ a b (stepReach ρ s r) (step σ s p) (step τ s q)
   step-same s r p q m n same =
-      put-both (λ c. SameDeep u v σ τ a b (get (stepReach ρ s r) c)) p q
+      put-both (λ c. SameWithMargin u v σ τ a b (get (stepReach ρ s r) c)) p q
       -- planes that the step leaves
-      (λ c x y h k. let l = step-further ρ s r c in same c x y (spot-less l h) (spot-less l k))
+      (λ c x y h k. let l = step-further ρ s r c in same c x y (spot-lesser l h) (spot-lesser l k))
       _ _ (s .plane)
       -- the plane that it changes
       (λ x y h k.
@@ -51,7 +52,7 @@ module _ (ρ : ℕ → ℕ) (u v : ℕ) (σ τ : Setup) (a b : Corner) (looks : 
       let t : termReach ρ r (s .term) ≤ get (stepReach ρ s r) (s .plane) = rw get-put (omega arith) in
       at-mapped (lifted σ p s) (get p (s .plane)) (index σ a x y) (rw (m (s .plane)) (spot-below (C .first) h))
       ∙ lifted-same σ τ p q (index σ a x y) (index τ b x y) (C .skips) (C .keep) s (term-same r p q same _ x y h k (s .term) t)
-      (same (s .plane) x y (spot-less l h) (spot-less l k))
+      (same (s .plane) x y (spot-lesser l h) (spot-lesser l k))
       ∙ sym (at-mapped (lifted τ q s) (get q (s .plane)) (index τ b x y) (rw (n (s .plane)) (spot-below (C .second) k))))
 
   run-same : (l : List Step) (r : Triple ℕ) (p q : Planes) → Sized σ p → Sized τ q → SamePart u v σ τ a b r p q

@@ -4,50 +4,43 @@ use Prim.Native.Nat.{ℕ, _+_, _-_, _≤_, _<_, min}
 use native.Mathlib.Omega.{arith}
 use Rattle.stage.specs.Planes.{Planes, get}
 use Rattle.locality.specs.Reach.{none, reachAlong}
-use Rattle.locality.specs.Parts.{Corner, Deep, Fits, DeepSpot, apart, Near, AgreeNear, AgreeElsewhere}
+use Rattle.locality.specs.Parts.{Corner, Margin, Fits, SpotMargin, apart, Near, AgreeNear, AgreeElsewhere}
 use Rattle.locality.specs.Locality.{PlanesLocal}
 use Rattle.locality.proofs.SharedPart.{shared-part}
 
--- the part of a line of n pixels that lies within d of pixel x: after how many it begins, how long it is
-before : ℕ → ℕ → ℕ
-before d x = x - d
+-- In a line of n pixels a part of u of them, after the first a, is what lies within d of pixel x.
+record Around (d x n a u : ℕ) : Type 0 where
+  fits : a + u ≤ n
+  spot : a + (x - a) ≡ x
+  margin : Margin d (x - a) a u n
+  near : (i : ℕ) → i < u → (a + i < n) × (apart x (a + i) ≤ d)
 
-long : ℕ → ℕ → ℕ → ℕ
-long d x n = min (x + d + 1) n - (x - d)
+around : (d x n : ℕ) → x < n → Around d x n (x - d) (min (x + d + 1) n - (x - d))
+around d x n l = record {
+  fits = omega arith;
+  spot = omega arith;
+  margin = record { here = omega arith; before = omega arith; behind = omega arith };
+  near = omega arith;
+}
 
-module _ (d x n : ℕ) (l : x < n) where
-  around-fits : before d x + long d x n ≤ n
-  unfolding before long
-  around-fits = omega arith
-
-  around-spot : before d x + (x - before d x) ≡ x
-  unfolding before
-  around-spot = omega arith
-
-  around-deep : Deep d (x - before d x) (before d x) (long d x n) n
-  unfolding before long
-  around-deep = record { here = omega arith; before = omega arith; behind = omega arith }
-
-  -- every pixel of the part is near
-  around-near : (i : ℕ) → i < long d x n → (before d x + i < n) × (apart x (before d x + i) ≤ d)
-  unfolding before long
-  around-near i h = omega arith
+near-by : {d x y x′ y′ : ℕ} → apart x x′ ≤ d → apart y y′ ≤ d → Near d x y x′ y′
+near-by c r = record { columns = omega (arith, c); rows = omega (arith, r) }
 
 pub planes-local : PlanesLocal
-planes-local way ρ σ looks l p q m n x y i j c agree =
+planes-local way ρ σ radii l p q m n x y i j c agree =
     let d = get (reachAlong way ρ l none) c in
-    let a : Corner = record { left = before d x; top = before d y } in
-    let u = long d x (σ .width) in
-    let v = long d y (σ .height) in
-    let f : Fits u v σ a = record { columns = around-fits d x (σ .width) i; rows = around-fits d y (σ .height) j } in
-    let h : DeepSpot u v σ a d (x - before d x) (y - before d y) = record { column = around-deep d x (σ .width) i; row = around-deep d y (σ .height) j } in
-    rw (around-spot d x (σ .width) i, around-spot d y (σ .height) j) at
-    (shared-part way ρ u v σ σ a a looks (record { first = f; second = f; filter = λ k x y _ _. refl; skips = refl; keep = λ z. refl }) l none p q m n
+    let s = around d x (σ .width) i in
+    let t = around d y (σ .height) j in
+    let a : Corner = record { left = x - d; top = y - d } in
+    let f : Fits _ _ σ a = record { columns = s .fits; rows = t .fits } in
+    let h : SpotMargin _ _ σ a d _ _ = record { column = s .margin; row = t .margin } in
+    rw (s .spot, t .spot) at
+    (shared-part way ρ _ _ σ σ a a radii (record { first = f; second = f; filter = λ k x y _ _. refl; skips = refl; keep = λ z. refl }) l none p q m n
     (λ b x′ y′ k _.
-    let s = around-near d x (σ .width) i x′ (k .column .here) in
-    let t = around-near d y (σ .height) j y′ (k .row .here) in
-    agree (before d x + x′) (before d y + y′) (s .0) (t .0) (record { columns = omega (arith, s .1); rows = omega (arith, t .1) }) b)
-    c (x - before d x) (y - before d y) h h)
+    let e = s .near x′ (k .column .here) in
+    let g = t .near y′ (k .row .here) in
+    agree (x - d + x′) (y - d + y′) (e .0) (g .0) (near-by (e .1) (g .1)) b)
+    c _ _ h h)
 
 -- planes that agree within some distance agree within a lesser one
 pub agree-less : {w h d e x y : ℕ} {p q : Planes} → d ≤ e → AgreeNear w h e x y p q → AgreeNear w h d x y p q

@@ -1,4 +1,4 @@
--- 02, request 10, "no bricks in the rock": what is proved of how far steps look. It holds for every setup: filters that change from sample to
+-- 02, request 10, "no bricks in the rock": what is proved of how far steps reach. It holds for every setup: filters that change from sample to
 -- sample, steps that are skipped, results that are wrapped. Letters as in Reach.antt and Parts.antt; t is a transform's number, d a distance.
 use mathlib.Core.Path.{_≡_}
 use mathlib.Core.List.{List, [], _∷_, map}
@@ -13,14 +13,15 @@ use Rattle.stage.specs.Settings.{each, settingsOf}
 use Rattle.stage.specs.Planes.{Triple, Planes, triple, get}
 use Rattle.stage.specs.Steps.{Setup, Step, run, steps, transforms}
 use Rattle.stage.specs.Transform.{forward, inverse}
-use Rattle.locality.specs.Reach.{Looks, oneAround, reaches, undoneReaches, Way, there, back, along, reachAlong, none, furthest, distance}
-use Rattle.locality.specs.Parts.{pixelIndex, SamePixel, Sized, Corner, index, Fits, DeepSpot, SameChoices, SamePart, cutSetup, cutOut, Near, AgreeNear, AgreeElsewhere}
+use Rattle.locality.specs.Reach.{RadiiUpTo, radiusOne, reaches, undoneReaches, Way, there, back, along, reachAlong, none, furthest, distance}
+use Rattle.locality.specs.Parts.{pixelIndex, SamePixel, Sized, Corner, index, Fits, SpotMargin, SameSetup, SamePart, cutSetup, cutOut, Near, AgreeNear, AgreeElsewhere}
 
 -- ---- The one law, from which all others follow
--- Two pictures share a part, and it is the same in both r deep. After any steps, run or undone, it is the same as deep as these look.
+-- Two pictures share a part, which is the same in both where the margins are r. After any steps, run or undone, it is the same where they are as wide
+-- as these steps reach.
 abbrev pub SharedPart : Type 0
 SharedPart =
-    (way : Way) (ρ : ℕ → ℕ) (u v : ℕ) (σ τ : Setup) (a b : Corner) → Looks ρ σ → SameChoices u v σ τ a b
+    (way : Way) (ρ : ℕ → ℕ) (u v : ℕ) (σ τ : Setup) (a b : Corner) → RadiiUpTo ρ σ → SameSetup u v σ τ a b
     → (l : List Step) (r : Triple ℕ) (p q : Planes) → Sized σ p → Sized τ q
     → SamePart u v σ τ a b r p q → SamePart u v σ τ a b (reachAlong way ρ l r) (along way σ l p) (along way τ l q)
 
@@ -29,29 +30,29 @@ SharedPart =
 -- each cut: for any list of steps, so for those from one step on too.
 abbrev pub CutOutSame : Type 0
 CutOutSame =
-    (way : Way) (ρ : ℕ → ℕ) (σ : Setup) → Looks ρ σ → (a : Corner) (u v : ℕ) → Fits u v σ a → (l : List Step) (p : Planes) → Sized σ p
-    → (c : Plane) (x y : ℕ) → DeepSpot u v σ a (get (reachAlong way ρ l none) c) x y
+    (way : Way) (ρ : ℕ → ℕ) (σ : Setup) → RadiiUpTo ρ σ → (a : Corner) (u v : ℕ) → Fits u v σ a → (l : List Step) (p : Planes) → Sized σ p
+    → (c : Plane) (x y : ℕ) → SpotMargin u v σ a (get (reachAlong way ρ l none) c) x y
     → at (get (along way (cutSetup σ a u v) l (cutOut σ a u v p)) c) (pixelIndex u x y) ≡ at (get (along way σ l p) c) (index σ a x y)
 
 -- The first n steps on the whole picture, the others on a cut-out of what they leave.
 abbrev pub CutOutFromStep : Type 0
 CutOutFromStep =
-    (ρ : ℕ → ℕ) (σ : Setup) → Looks ρ σ → (a : Corner) (u v : ℕ) → Fits u v σ a → (l : List Step) (n : ℕ) (p : Planes) → Sized σ p
-    → (c : Plane) (x y : ℕ) → DeepSpot u v σ a (get (reaches ρ (drop n l) none) c) x y
+    (ρ : ℕ → ℕ) (σ : Setup) → RadiiUpTo ρ σ → (a : Corner) (u v : ℕ) → Fits u v σ a → (l : List Step) (n : ℕ) (p : Planes) → Sized σ p
+    → (c : Plane) (x y : ℕ) → SpotMargin u v σ a (get (reaches ρ (drop n l) none) c) x y
     → at (get (run (cutSetup σ a u v) (drop n l) (cutOut σ a u v (run σ (take n l) p))) c) (pixelIndex u x y) ≡ at (get (run σ l p) c) (index σ a x y)
 
 -- All steps of a transform, in all three planes.
 abbrev pub TransformCutOut : Type 0
 TransformCutOut =
     (way : Way) (t : ℕ) (σ : Setup) (a : Corner) (u v : ℕ) → Fits u v σ a → (p : Planes) → Sized σ p
-    → (x y : ℕ) → DeepSpot u v σ a (distance way t) x y
+    → (x y : ℕ) → SpotMargin u v σ a (distance way t) x y
     → SamePixel (along way (cutSetup σ a u v) (steps t) (cutOut σ a u v p)) (along way σ (steps t) p) (pixelIndex u x y) (index σ a x y)
 
 -- ---- Two pictures that agree near a spot
 -- Each plane by its own reach.
 abbrev pub PlanesLocal : Type 0
 PlanesLocal =
-    (way : Way) (ρ : ℕ → ℕ) (σ : Setup) → Looks ρ σ → (l : List Step) (p q : Planes) → Sized σ p → Sized σ q
+    (way : Way) (ρ : ℕ → ℕ) (σ : Setup) → RadiiUpTo ρ σ → (l : List Step) (p q : Planes) → Sized σ p → Sized σ q
     → (x y : ℕ) → x < σ .width → y < σ .height → (c : Plane) → AgreeNear (σ .width) (σ .height) (get (reachAlong way ρ l none) c) x y p q
     → at (get (along way σ l p) c) (pixelIndex (σ .width) x y) ≡ at (get (along way σ l q) c) (pixelIndex (σ .width) x y)
 
@@ -73,14 +74,14 @@ DamageStays =
 -- ---- The distances, computed from the steps
 pub record ReachTable : Type 0 where
   -- by plane
-  pub planes-there : map (λ l. reaches oneAround l none) transforms ≡ triple 1 2 1 ∷ triple 1 3 4 ∷ triple 0 1 1 ∷ triple 2 1 3 ∷ []
-  pub planes-back : map (λ l. undoneReaches oneAround l none) transforms ≡ triple 2 1 2 ∷ triple 2 2 1 ∷ triple 0 1 2 ∷ triple 1 2 1 ∷ []
+  pub planes-there : map (λ l. reaches radiusOne l none) transforms ≡ triple 1 2 1 ∷ triple 1 3 4 ∷ triple 0 1 1 ∷ triple 2 1 3 ∷ []
+  pub planes-back : map (λ l. undoneReaches radiusOne l none) transforms ≡ triple 2 1 2 ∷ triple 2 2 1 ∷ triple 0 1 2 ∷ triple 1 2 1 ∷ []
   -- of all planes: the paper's
-  pub all : (way : Way) (t : ℕ) → distance way t ≡ furthest (reachAlong way oneAround (steps t) none)
+  pub all : (way : Way) (t : ℕ) → distance way t ≡ furthest (reachAlong way radiusOne (steps t) none)
   -- from each step on
-  pub from-step : map (λ l. map (λ n. furthest (reaches oneAround (drop n l) none)) (0 ∷ 1 ∷ 2 ∷ 3 ∷ [])) transforms
+  pub from-step : map (λ l. map (λ n. furthest (reaches radiusOne (drop n l) none)) (0 ∷ 1 ∷ 2 ∷ 3 ∷ [])) transforms
       ≡ (2 ∷ 2 ∷ 1 ∷ 0 ∷ []) ∷ (4 ∷ 3 ∷ 2 ∷ 1 ∷ []) ∷ (1 ∷ 1 ∷ 0 ∷ 0 ∷ []) ∷ (3 ∷ 2 ∷ 1 ∷ 0 ∷ []) ∷ []
-  -- with filters 0 and 12 alone every plane looks at itself
+  -- with filters 0 and 12 alone no plane reaches a neighbour
   pub pointwise : map (λ l. reaches (λ k. 0) l none) transforms ≡ none ∷ none ∷ none ∷ none ∷ []
 
 -- ---- No distance is too large
@@ -89,9 +90,9 @@ abbrev pub call : Way → Form → Settings → List ℕ → Planes → Outcome 
 call there = forward
 call back = inverse
 
--- It looks further than d around the first pixel: there are choices and two planes which it accepts, that agree within d of that pixel, and it leaves
--- two numbers there.
-pub record LooksFurther (way : Way) (κ : Form) (s : Settings) (d : ℕ) : Type 0 where
+-- It reaches further than d from the first pixel: there are choices and two pictures, or finished planes, which it accepts, that agree within d of that
+-- pixel, and it leaves two numbers there.
+pub record ReachesFurther (way : Way) (κ : Form) (s : Settings) (d : ℕ) : Type 0 where
   pub choices : List ℕ
   pub first : Planes
   pub second : Planes
@@ -105,5 +106,5 @@ pub record LooksFurther (way : Way) (κ : Form) (s : Settings) (d : ℕ) : Type 
 abbrev pub NoLess : Type 0
 NoLess =
     (way : Way) (κ : Form) (t : ℕ) → t ≤ 3
-    → LooksFurther way κ (settingsOf (suc (distance way t)) 1 (each 16) t) (distance way t - 1)
-    × LooksFurther way κ (settingsOf 1 (suc (distance way t)) (each 16) t) (distance way t - 1)
+    → ReachesFurther way κ (settingsOf (suc (distance way t)) 1 (each 16) t) (distance way t - 1)
+    × ReachesFurther way κ (settingsOf 1 (suc (distance way t)) (each 16) t) (distance way t - 1)

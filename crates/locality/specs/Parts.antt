@@ -31,9 +31,9 @@ pub record Corner : Type 0 where
 abbrev pub index : Setup → Corner → (x y : ℕ) → ℕ
 index σ a x y = pixelIndex (σ .width) (a .left + x) (a .top + y)
 
--- Of a line of n pixels, a row or a column, a part of u pixels begins after a of them. Its pixel x is d deep: at least d away from each end
--- that is a cut, so that d pixels of the part lie between. The line's own end is no cut.
-pub record Deep (d x a u n : ℕ) : Type 0 where
+-- Of a line of n pixels, a row or a column, a part of u pixels begins after a of them. Its pixel x has a margin of d: it is at least d away from
+-- each end that is a cut, so that d pixels of the part lie between. The line's own end is no cut.
+pub record Margin (d x a u n : ℕ) : Type 0 where
   pub here : x < u
   pub before : 0 < a → d ≤ x
   pub behind : a + u < n → x + d < u
@@ -45,26 +45,26 @@ module _ (u v : ℕ) (σ : Setup) (a : Corner) where
     pub rows : a .top + v ≤ σ .height
 
   -- its spot at column x and row y is at least d away from each side that is a cut
-  pub record DeepSpot (d x y : ℕ) : Type 0 where
-    pub column : Deep d x (a .left) u (σ .width)
-    pub row : Deep d y (a .top) v (σ .height)
+  pub record SpotMargin (d x y : ℕ) : Type 0 where
+    pub column : Margin d x (a .left) u (σ .width)
+    pub row : Margin d y (a .top) v (σ .height)
 
 -- ---- Two pictures that share a part of width u and height v: it begins at a in one, at b in the other
 module _ (u v : ℕ) (σ τ : Setup) (a b : Corner) where
-  -- the part lies in both, and steps run with the same on it
-  pub record SameChoices : Type 0 where
+  -- the part lies in both, and on it steps run with the same
+  pub record SameSetup : Type 0 where
     pub first : Fits u v σ a
     pub second : Fits u v τ b
     pub filter : (k x y : ℕ) → x < u → y < v → σ .filter k (index σ a x y) ≡ τ .filter k (index τ b x y)
     pub skips : σ .skips ≡ τ .skips
     pub keep : (z : ℤ) → σ .keep z ≡ τ .keep z
 
-  -- the numbers of two planes are the same at every spot of the part that is d deep in both pictures; of three planes, each with its own d
-  abbrev pub SameDeep : (d : ℕ) → List ℤ → List ℤ → Type 0
-  SameDeep d m n = (x y : ℕ) → DeepSpot u v σ a d x y → DeepSpot u v τ b d x y → at m (index σ a x y) ≡ at n (index τ b x y)
+  -- the numbers of two planes are the same at every spot of the part that has a margin of d in both pictures; of three planes, each with its own d
+  abbrev pub SameWithMargin : (d : ℕ) → List ℤ → List ℤ → Type 0
+  SameWithMargin d m n = (x y : ℕ) → SpotMargin u v σ a d x y → SpotMargin u v τ b d x y → at m (index σ a x y) ≡ at n (index τ b x y)
 
   abbrev pub SamePart : Triple ℕ → Planes → Planes → Type 0
-  SamePart r p q = (c : Plane) → SameDeep (get r c) (get p c) (get q c)
+  SamePart r p q = (c : Plane) → SameWithMargin (get r c) (get p c) (get q c)
 
 -- ---- A picture cut out of a picture: the numbers of the part, and what steps run with there
 module _ (σ : Setup) (a : Corner) (u v : ℕ) where

@@ -1,5 +1,5 @@
--- How far steps look (02, request 10), computed from the steps as ranges are. r is a reach for each plane: its number at a spot depends on
--- what stood at most so many rows and columns around the spot. ρ k is how far the filter of place k looks.
+-- How far steps reach (02, request 10), computed from the steps as ranges are. r is a reach for each plane: its number at a spot depends only on
+-- what stood at most so many rows and columns away. ρ k is a radius for place k.
 use mathlib.Core.Bool.{cond, _||_}
 use mathlib.Core.List.{List, [], _∷_}
 use Prim.Native.Nat.{ℕ, _+_, _≤_, max}
@@ -8,17 +8,17 @@ use lib.ListN.{getD}
 use Rattle.stage.specs.Planes.{Triple, Planes, triple, get, put}
 use Rattle.stage.specs.Steps.{Setup, Step, Term, _ᵈ_, _⊕_, _/2, _/4, run, undo, reversed}
 
--- A filter's radius: filters 1 to 11 look at the 3 × 3 window, one row and one column around; filter 0 gives the sample itself, filter 12
--- gives 0.
+-- A filter's radius: filters 1 to 11 take the mean of the 3 × 3 window, one row and one column around; filter 0 gives the sample itself, filter
+-- 12 gives 0.
 abbrev pub radius : ℕ → ℕ
 radius f = cond (eqb f 0 || eqb f 12) 0 1
 
--- no filter of place k looks further than ρ k; and one row and column around, further than which no filter looks
-abbrev pub Looks : (ρ : ℕ → ℕ) → Setup → Type 0
-Looks ρ σ = (k i : ℕ) → radius (σ .filter k i) ≤ ρ k
+-- no filter of place k has a radius above ρ k; and radius 1, which no filter exceeds
+abbrev pub RadiiUpTo : (ρ : ℕ → ℕ) → Setup → Type 0
+RadiiUpTo ρ σ = (k i : ℕ) → radius (σ .filter k i) ≤ ρ k
 
-abbrev pub oneAround : ℕ → ℕ
-oneAround k = 1
+abbrev pub radiusOne : ℕ → ℕ
+radiusOne k = 1
 
 -- A filtered value reaches further than its plane by the filter's radius. A changed plane reaches as far as what the step adds, and no less
 -- far than before.
@@ -40,7 +40,7 @@ abbrev pub undoneReaches : (ρ : ℕ → ℕ) → List Step → Triple ℕ → T
 undoneReaches ρ [] r = r
 undoneReaches ρ (s ∷ l) r = stepReach ρ (reversed s) (undoneReaches ρ l r)
 
--- The two ways through a list of steps: it is run, or undone. What each makes of planes, and how far each plane then looks.
+-- The two ways through a list of steps: it is run, or undone. What each makes of planes, and how far each plane then reaches.
 pub data Way : Type 0 where
   there back : Way
 
@@ -52,7 +52,7 @@ abbrev pub reachAlong : Way → (ρ : ℕ → ℕ) → List Step → Triple ℕ 
 reachAlong there = reaches
 reachAlong back = undoneReaches
 
--- planes before any step look at themselves alone; the furthest that one of three planes looks
+-- before any step a number depends on itself alone; the furthest that one of three planes reaches
 abbrev pub none : Triple ℕ
 none = triple 0 0 0
 

@@ -1,1 +1,1 @@
-//! How far a transform looks: definitions and proofs alone, in `specs/` and `proofs/`.
+//! How far a transform reaches: definitions and proofs alone, in `specs/` and `proofs/`.

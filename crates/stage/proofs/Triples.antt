@@ -4,7 +4,7 @@ use mathlib.Core.Bool.{Bool, not, _&&_}
 use mathlib.Core.Logic.{_↔_}
 use lib.Dec.{T}
 use Rattle.integers.proofs.Booleans.{and-iff}
-use Rattle.stage.specs.Planes.{Plane, C1, C2, C3, Triple, get, put, samePlane}
+use Rattle.stage.specs.Planes.{Plane, C1, C2, C3, Triple, get, put, samePlane, mapTriple}
 
 -- one fact for each plane
 pub each-plane : (P : Plane → Type 0) → P C1 → P C2 → P C3 → (c : Plane) → P c
@@ -53,6 +53,11 @@ module _ {A : Type 0} where
   others-same p q C1 h = λ i. record { c1 = q .c1; c2 = h C2 tt i; c3 = h C3 tt i }
   others-same p q C2 h = λ i. record { c1 = h C1 tt i; c2 = q .c2; c3 = h C3 tt i }
   others-same p q C3 h = λ i. record { c1 = h C1 tt i; c2 = h C2 tt i; c3 = q .c3 }
+
+pub get-map : {A B : Type 0} (f : A → B) (t : Triple A) (c : Plane) → get (mapTriple f t) c ≡ f (get t c)
+get-map f t C1 = refl
+get-map f t C2 = refl
+get-map f t C3 = refl
 
 -- what relates two triples plane by plane still does once related things are put at the same plane of both
 module _ {A B : Type 0} (R : Plane → A → B → Type 0) (p : Triple A) (q : Triple B) (h : (c : Plane) → R c (get p c) (get q c)) (a : A) (b : B) where

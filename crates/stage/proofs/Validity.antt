@@ -1,5 +1,5 @@
 -- What holds once the tests of a call's settings and scratch are past.
-use mathlib.Core.Path.{_≡_, refl, sym, ap, _∙_, subst}
+use mathlib.Core.Path.{_≡_, sym, ap, _∙_, subst}
 use mathlib.Core.Bool.{Bool, cond, _&&_}
 use mathlib.Core.Logic.{_↔_}
 use Prim.Native.Nat.{ℕ, _*_, _≤_, _<_}
@@ -10,13 +10,13 @@ use lib.ListN.{length}
 use Rattle.integers.proofs.Booleans.{holds-true, and-iff}
 use Rattle.stage.specs.Answers.{between}
 use Rattle.stage.specs.Settings.{Settings, Form, depthAt, depthsAllowed, depthsSuit, pixels, Allowed}
-use Rattle.stage.specs.Planes.{Plane, C1, C2, C3, Triple, Planes, get}
+use Rattle.stage.specs.Planes.{Plane, Triple, Planes, get}
 use Rattle.stage.specs.Ranges.{widest}
 use Rattle.stage.specs.Transform.{lengths, allEqual, settingsTests, HasSize}
 use Rattle.stage.specs.Search.{countersNeeded, allAtLeast, scratchFits}
 use Rattle.stage.specs.Theorems.{CountersTold}
 use Rattle.stage.proofs.Answers.{Holds, between-iff, sized-iff}
-use Rattle.stage.proofs.Triples.{each-test}
+use Rattle.stage.proofs.Triples.{each-test, get-map}
 
 eq-test : {m n : ℕ} → m ≡ n → T (eqb m n)
 eq-test {m} e = subst (λ (k : ℕ). T (eqb m k)) e (eqb-refl m)
@@ -75,9 +75,7 @@ settings-iff κ s choices l =
 
 -- lengths by plane
 pub length-at : (p : Planes) (c : Plane) → get (lengths p) c ≡ length (get p c)
-length-at p C1 = refl
-length-at p C2 = refl
-length-at p C3 = refl
+length-at p c = get-map length p c
 
 pub has-size : {κ : Form} {s : Settings} {choices : Bool} (p : Planes) → ValidSettings κ s choices (lengths p) → HasSize s p
 has-size p v c = sym (length-at p c) ∙ v .size c

@@ -10,7 +10,7 @@ use Rattle.stage.specs.Settings.{settingsOf}
 use Rattle.stage.specs.Planes.{Planes}
 use Rattle.stage.specs.Transform.{setup, Picture}
 use Rattle.locality.specs.Reach.{Way, there, back, distance}
-use Rattle.locality.specs.Parts.{pixelIndex, SamePixel, Corner, index, Fits, DeepSpot, cutOut, Near, AgreeNear, AgreeElsewhere}
+use Rattle.locality.specs.Parts.{pixelIndex, SamePixel, Corner, index, Fits, SpotMargin, cutOut, Near, AgreeNear, AgreeElsewhere}
 use Rattle.transform.specs.Calls.{ForwardGives, InverseGives}
 
 -- the call that goes this way, lent p, answers r and leaves q
@@ -45,4 +45,4 @@ abbrev pub CallsCutOut : Type 0
 CallsCutOut =
     (way : Way) (κ : Form) (s : Settings) (φ : List ℕ) (a : Corner) (u v : ℕ) → Fits u v (setup κ s φ) a → (p q q′ : Planes)
     → CallGives way κ s φ p Done q → CallGives way κ (settingsOf u v (s .depths) (s .transform)) φ (cutOut (setup κ s φ) a u v p) Done q′
-    → (x y : ℕ) → DeepSpot u v (setup κ s φ) a (distance way (s .transform)) x y → SamePixel q′ q (pixelIndex u x y) (index (setup κ s φ) a x y)
+    → (x y : ℕ) → SpotMargin u v (setup κ s φ) a (distance way (s .transform)) x y → SamePixel q′ q (pixelIndex u x y) (index (setup κ s φ) a x y)
