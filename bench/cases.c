@@ -1,5 +1,7 @@
 /* One case: the library and the plain C in turn on the same input, results equal each time. The times printed are
-   the best of each; the ratio is the middle one of all turns' ratios, which a busy machine disturbs least. */
+   the best of each; the ratio is the middle one of all turns' ratios, which a busy machine disturbs least. A banded
+   call also stands beside the library's plain call: with the same filters or, where bands differ, with each set of
+   choices in turn, each time weighed by the rows that have the set. */
 #define _POSIX_C_SOURCE 200809L
 #include "bench.h"
 #include "rulantip.h"
@@ -10,18 +12,33 @@
 
 #define ROUNDS 2
 #define MOST_TURNS 1000
-const char *const transform_names[TRANSFORMS] = {"RCT", "YCoCg-R", "RDgDb", "LDgEb"};
-double worst_ratio[KINDS];
+const char *const call_names[CALLS] = {
+    "forward", "inverse", "forward_wrapped", "inverse_wrapped",
+    "forward_banded", "inverse_banded", "forward_wrapped_banded", "inverse_wrapped_banded", "estimate", "search"
+};
+static const char *const transform_names[TRANSFORMS] = {"RCT", "YCoCg-R", "RDgDb", "LDgEb"};
+double worst_ratio[KINDS], worst_to_plain;
 
-static int32_t *picture[3], *work[2][3];   /* two sets of work planes; library and plain C change sets between turns */
+/* UNBANDED: the library's plain call, beside banded ones; COPY: memcpy of three planes */
+enum side { PLAIN, LIBRARY, UNBANDED, COPY, SIDES };
+
+static int32_t *picture[3], *work[UNBANDED + 1][3];   /* sets of work planes; the sides change sets between turns */
 static uint32_t *counters[2];
 
-enum side { PLAIN, LIBRARY, COPY, SIDES };   /* COPY: memcpy of three planes */
-
 typedef struct {
-    double best[SIDES], last[SIDES];       /* in ms */
-    double ratios[MOST_TURNS];             /* library to plain C, by turn */
+    double best[SIDES], last[SIDES];                /* in ms */
+    double ratios[MOST_TURNS + MOST_MIXED];         /* library to plain C, by turn */
+    double to_plain[MOST_TURNS + MOST_MIXED];       /* banded to plain calls, by round of sets */
+    double banded, plain;                           /* the round's means so far */
 } times;
+
+/* The sides of a case that runs a transform. */
+typedef struct {
+    const setting *s;
+    const uint8_t *choices;   /* set after set from the top band */
+    uint32_t sets;            /* different ones; they come again below */
+    uint32_t sides;
+} contest;
 
 /* The process's own time: what other programs take of the processor does not count. */
 static double now(void)
@@ -44,10 +61,10 @@ static int compare(const void *a, const void *b)
     return (x > y) - (x < y);
 }
 
-static double middle_ratio(times *t, uint32_t turns)
+static double middle(double *ratios, uint32_t count)
 {
-    qsort(t->ratios, turns, sizeof *t->ratios, compare);
-    return (t->ratios[(turns - 1) / 2] + t->ratios[turns / 2]) / 2;
+    qsort(ratios, count, sizeof *ratios, compare);
+    return (ratios[(count - 1) / 2] + ratios[count / 2]) / 2;
 }
 
 /* Memory with every page touched. The planes of a set start at different places in a page. */
@@ -63,13 +80,13 @@ static void *touched(size_t bytes, uint32_t number)
     return p + 1088 * number;
 }
 
-void allocate(size_t widest_square)
+void allocate(size_t widest_square, uint32_t sets_of_planes)
 {
     size_t bytes = 4 * widest_square * widest_square;
     for (uint32_t i = 0; i < 3; i++) {
         picture[i] = touched(bytes, i);
-        work[0][i] = touched(bytes, i);
-        work[1][i] = touched(bytes, i);
+        for (uint32_t set = 0; set < sets_of_planes; set++)
+            work[set][i] = touched(bytes, i);
     }
     counters[0] = touched(4 * RULANTIP_COUNTERS_MAX, 0);
     counters[1] = touched(4 * RULANTIP_COUNTERS_MAX, 0);
@@ -107,8 +124,8 @@ static void expect(int equal, const char *what, const setting *s)
 {
     if (equal)
         return;
-    fprintf(stderr, "%s differs: %s%s, %zu by %zu, depth %u\n", what, transform_names[s->transform],
-            s->wrapped ? " wrapped" : "", s->width, s->height, s->depth);
+    fprintf(stderr, "%s differs: %s%s%s, %zu by %zu, depth %u\n", what, transform_names[s->transform],
+            s->wrapped ? " wrapped" : "", s->band_height ? " banded" : "", s->width, s->height, s->depth);
     exit(1);
 }
 
@@ -116,39 +133,115 @@ static void expect(int equal, const char *what, const setting *s)
 #define SETTING(s) (uint32_t)(s)->width, (uint32_t)(s)->height, DEPTHS(s), (s)->transform
 #define PLANES(s, p) p[0], (s)->width * (s)->height, p[1], (s)->width * (s)->height, p[2], (s)->width * (s)->height
 
+#define CHOICES(s, c) c, bands_of(s) * places_of((s)->transform)
+
+static uint32_t call_banded(int back, const setting *s, const uint8_t *c, int32_t *const p[3])
+{
+    uint32_t rows = (uint32_t)s->band_height;
+    if (s->wrapped && back) return rulantip_inverse_wrapped_banded(SETTING(s), rows, CHOICES(s, c), PLANES(s, p));
+    if (s->wrapped) return rulantip_forward_wrapped_banded(SETTING(s), rows, CHOICES(s, c), PLANES(s, p));
+    if (back) return rulantip_inverse_banded(SETTING(s), rows, CHOICES(s, c), PLANES(s, p));
+    return rulantip_forward_banded(SETTING(s), rows, CHOICES(s, c), PLANES(s, p));
+}
+
 static uint32_t call_library(int back, const setting *s, const uint8_t *c, int32_t *const p[3])
 {
-    size_t places = places_of(s->transform);
-    if (s->wrapped && back) return rulantip_inverse_wrapped(SETTING(s), c, places, PLANES(s, p));
-    if (s->wrapped) return rulantip_forward_wrapped(SETTING(s), c, places, PLANES(s, p));
-    if (back) return rulantip_inverse(SETTING(s), c, places, PLANES(s, p));
-    return rulantip_forward(SETTING(s), c, places, PLANES(s, p));
+    if (s->band_height) return call_banded(back, s, c, p);
+    if (s->wrapped && back) return rulantip_inverse_wrapped(SETTING(s), CHOICES(s, c), PLANES(s, p));
+    if (s->wrapped) return rulantip_forward_wrapped(SETTING(s), CHOICES(s, c), PLANES(s, p));
+    if (back) return rulantip_inverse(SETTING(s), CHOICES(s, c), PLANES(s, p));
+    return rulantip_forward(SETTING(s), CHOICES(s, c), PLANES(s, p));
 }
 
-static void time_transform(int library, int back, const setting *s, const uint8_t *c, int32_t *const p[3], times *t)
+static uint32_t call_plain_c(int back, const setting *s, const uint8_t *c, int32_t *const p[3])
 {
-    uint32_t refusal;
+    return back ? plain_inverse(s, c, p) : plain_forward(s, c, p);
+}
+
+static void time_transform(enum side side, int back, const setting *s, const uint8_t *c, int32_t *const p[3], times *t)
+{
     double since = now();
-    if (library) refusal = call_library(back, s, c, p);
-    else if (back) refusal = plain_inverse(s, c, p);
-    else refusal = plain_forward(s, c, p);
-    keep(t, library ? LIBRARY : PLAIN, since);
-    expect(refusal == 0, library ? "the library's answer" : "the plain C's answer", s);
+    uint32_t refusal = side == PLAIN ? call_plain_c(back, s, c, p) : call_library(back, s, c, p);
+    keep(t, side, since);
+    expect(refusal == 0, side == PLAIN ? "the plain C's answer" : "the library's answer", s);
 }
 
-/* Forward, then back, each side once. Over four turns each side has been first and second on both sets. */
-static void turn_transform(uint32_t turn, const setting *s, const uint8_t *choices, times t[2])
+/* The plain call has one set of choices, the next in each turn. */
+static void time_side(enum side side, int back, const contest *c, uint32_t turn, int32_t *const p[3], times *t)
 {
-    uint32_t library = turn & 1, set = turn >> 1 & 1;
-    for (uint32_t i = 0; i < 2; i++) {
-        copy_picture(s, work[i ^ set], &t[0]);
-        time_transform(i == library, 0, s, choices, work[i ^ set], &t[0]);
+    setting whole = *c->s;
+    whole.band_height = 0;
+    if (side == UNBANDED)
+        time_transform(side, back, &whole, c->choices + turn % c->sets * places_of(whole.transform), p, t);
+    else
+        time_transform(side, back, c->s, c->choices, p, t);
+}
+
+static int32_t *const *planes_of(enum side side, const contest *c, uint32_t turn)
+{
+    return work[(side + turn / c->sides) % c->sides];
+}
+
+/* Are they what the plain C made? With one set of choices for all bands the plain call makes it too. */
+static int same_forward(const contest *c, uint32_t turn)
+{
+    int32_t *const *made = planes_of(PLAIN, c, turn);
+    return same_planes(c->s, planes_of(LIBRARY, c, turn), made) &&
+           (c->sides <= UNBANDED || c->sets > 1 || same_planes(c->s, planes_of(UNBANDED, c, turn), made));
+}
+
+/* Every order comes in turn. Over 4 turns of two sides, or 18 of three, each side has come as often at each place of the
+   order with each set of planes. */
+static enum side side_at(uint32_t i, const contest *c, uint32_t turn)
+{
+    return (turn + (turn & 1 ? c->sides - i : i)) % c->sides;
+}
+
+/* Reads all numbers: a comparison leaves some planes nearer to the processor than others. */
+static void read_planes(const setting *s, int32_t *const p[3])
+{
+    for (uint32_t i = 0; i < 3; i++)
+        are_samples(p[i], s->width * s->height, 0);
+}
+
+/* Forward, then back, each side once. */
+static void turn_transform(uint32_t turn, const contest *c, times t[2])
+{
+    for (uint32_t i = 0; i < c->sides; i++) {
+        enum side side = side_at(i, c, turn);
+        copy_picture(c->s, planes_of(side, c, turn), &t[0]);
+        time_side(side, 0, c, turn, planes_of(side, c, turn), &t[0]);
     }
-    expect(same_planes(s, work[0], work[1]), "forward", s);
-    for (uint32_t i = 0; i < 2; i++)
-        time_transform(i == library, 1, s, choices, work[i ^ set], &t[1]);
-    expect(same_planes(s, work[0], picture) && same_planes(s, work[1], picture), "inverse", s);
+    expect(same_forward(c, turn), "forward", c->s);
+    for (uint32_t i = 0; i < c->sides; i++) {
+        enum side side = side_at(i, c, turn);
+        if (c->sides > UNBANDED)
+            read_planes(c->s, planes_of(side, c, turn));
+        time_side(side, 1, c, turn, planes_of(side, c, turn), &t[1]);
+    }
+    for (uint32_t i = 0; i < c->sides; i++)
+        expect(same_planes(c->s, work[i], picture), "inverse", c->s);
     t[1].best[COPY] = t[0].best[COPY];
+}
+
+/* The share of rows in bands that have the set. */
+static double share_of(const contest *c, uint32_t set)
+{
+    size_t rows = 0, bands = bands_of(c->s);
+    for (size_t i = set; i < bands; i += c->sets)
+        rows += band_at(c->s, i).to - band_at(c->s, i).from;
+    return (double)rows / (double)c->s->height;
+}
+
+/* A round is one turn for each set. */
+static void keep_to_plain(times *t, const contest *c, uint32_t turn)
+{
+    t->banded += t->last[LIBRARY] / c->sets;
+    t->plain += t->last[UNBANDED] * share_of(c, turn % c->sets);
+    if (turn % c->sets + 1 < c->sets)
+        return;
+    t->to_plain[turn / c->sets] = t->banded / t->plain;
+    t->banded = t->plain = 0;
 }
 
 static estimated time_search(int library, uint32_t rounds, const setting *s, uint8_t *c, uint32_t set, times *t)
@@ -190,44 +283,71 @@ static void turn_search(uint32_t turn, uint32_t rounds, const setting *s, const 
     expect(!memcmp(counters[0], counters[1], 4 * rulantip_counters(DEPTHS(s), s->transform)), "a counter", s);
 }
 
-static void print_case(enum kind kind, const char *call, const setting *s, const char *filter, times *t, uint32_t turns)
+static double worse(double a, double b) { return a > b ? a : b; }
+
+static void print_case(enum kind kind, const char *call, const contest *c, const char *filters, times *t,
+                       uint32_t turns)
 {
-    double ratio = middle_ratio(t, turns);
-    if (ratio > worst_ratio[kind])
-        worst_ratio[kind] = ratio;
-    printf("%-16s%-8s %5zu %5u %6s %11.3f %11.3f %6.2f %9.2f\n", call, transform_names[s->transform], s->width,
-           s->depth, filter, t->best[LIBRARY], t->best[PLAIN], ratio, t->best[LIBRARY] / t->best[COPY]);
+    const setting *s = c->s;
+    double ratio = middle(t->ratios, turns), to_plain = s->band_height ? middle(t->to_plain, turns / c->sets) : 0;
+    worst_ratio[kind] = worse(worst_ratio[kind], ratio);
+    worst_to_plain = worse(worst_to_plain, to_plain);
+    printf("%-23s%-8s %5zu %5u %6s %11.3f %11.3f %6.2f %9.2f", call, transform_names[s->transform], s->width, s->depth,
+           filters, t->best[LIBRARY], t->best[PLAIN], ratio, t->best[LIBRARY] / t->best[COPY]);
+    if (s->band_height) printf(" %8.2f\n", to_plain);
+    else printf(" %8s\n", "-");
     fflush(stdout);
 }
 
-static int is_transform(enum kind kind) { return kind == TRANSFORM || kind == WRAPPED_TRANSFORM; }
+static int is_transform(enum kind kind) { return kind != ESTIMATE && kind != SEARCH; }
 
-static int enough(enum kind kind, uint32_t turn, double spent)
+/* Three sides need more turns than two, and each set of choices needs some. */
+static int enough(enum kind kind, const contest *c, uint32_t turn, double spent)
 {
-    return turn == MOST_TURNS || (kind == SEARCH ? turn >= 2 && spent > 1000 : turn >= 8 && spent > 300);
+    if (turn >= MOST_TURNS) return 1;
+    if (kind == SEARCH) return turn >= 2 && spent > 1000;
+    if (c->s->band_height) return turn >= 18 && turn >= 9 * c->sets && spent > 300;
+    return turn >= 8 && spent > 300;
 }
 
-void run_case(enum kind kind, const setting *s, uint32_t filter, uint32_t calls, uint32_t turns)
+static void fill_choices(const setting *s, const mix *m, uint8_t *choices)
+{
+    size_t bands = bands_of(s), places = places_of(s->transform);
+    for (size_t i = 0; i < bands; i++)
+        for (size_t p = 0; p < places; p++)
+            choices[i * places + p] = m->filters[(i + p) % m->count];
+}
+
+static uint32_t sets_of(const setting *s, const mix *m)
+{
+    return bands_of(s) < m->count ? (uint32_t)bands_of(s) : m->count;
+}
+
+static void run_turn(enum kind kind, uint32_t turn, const contest *c, times t[2])
+{
+    if (is_transform(kind)) turn_transform(turn, c, t);
+    else turn_search(turn, kind == SEARCH ? ROUNDS : 0, c->s, c->choices, t);
+    for (uint32_t i = 0; i < (is_transform(kind) ? 2 : 1); i++) {
+        t[i].ratios[turn] = t[i].last[LIBRARY] / t[i].last[PLAIN];
+        if (c->s->band_height)
+            keep_to_plain(&t[i], c, turn);
+    }
+}
+
+void run_case(enum kind kind, const setting *s, const mix *m, uint32_t calls, uint32_t turns)
 {
     static times t[2];   /* forward and inverse; the estimate and the search have the first */
-    uint8_t choices[MOST_PLACES];
-    char text[12] = "-";
+    static uint8_t choices[MOST_BANDS * MOST_PLACES];
+    contest c = {s, choices, sets_of(s, m), s->band_height ? UNBANDED + 1 : LIBRARY + 1};
     uint32_t turn;
-    double since = now();
+    fill_choices(s, m, choices);
+    if (s->band_height)
+        turn_transform(0, &c, t);   /* results are compared before anything is timed */
     memset(t, 0, sizeof t);
-    memset(choices, (int)filter, sizeof choices);
-    if (kind != SEARCH)
-        snprintf(text, sizeof text, "%u", filter);
-    for (turn = 0; turns ? turn < turns : !enough(kind, turn, now() - since); turn++) {
-        if (is_transform(kind)) turn_transform(turn, s, choices, t);
-        else turn_search(turn, kind == SEARCH ? ROUNDS : 0, s, choices, t);
-        for (uint32_t i = 0; i < (is_transform(kind) ? 2 : 1); i++)
-            t[i].ratios[turn] = t[i].last[LIBRARY] / t[i].last[PLAIN];
-    }
-    if (calls & FORWARD) print_case(kind, "forward", s, text, &t[0], turn);
-    if (calls & INVERSE) print_case(kind, "inverse", s, text, &t[1], turn);
-    if (calls & FORWARD_WRAPPED) print_case(kind, "forward_wrapped", s, text, &t[0], turn);
-    if (calls & INVERSE_WRAPPED) print_case(kind, "inverse_wrapped", s, text, &t[1], turn);
-    if (calls & ESTIMATES) print_case(kind, "estimate", s, text, t, turn);
-    if (calls & SEARCHES) print_case(kind, "search", s, text, t, turn);
+    double since = now();
+    for (turn = 0; turn % c.sets || (turns ? turn < turns : !enough(kind, &c, turn, now() - since)); turn++)
+        run_turn(kind, turn, &c, t);
+    for (uint32_t i = 0; i < CALLS; i++)
+        if (calls & 1u << i)
+            print_case(kind, call_names[i], &c, m->name, &t[INVERSES >> i & 1], turn);
 }

@@ -147,23 +147,25 @@ INLINE void change_row(const setting *s, enum row_change change, uint32_t filter
     row_functions[form_of(s)][change][filter](c + y * width, m, above, below, width, mask_of(s));
 }
 
-static void lift_rows(const setting *s, enum row_change rows, uint32_t filter, int32_t *c, const int32_t *a)
+static void lift_rows(const setting *s, band r, enum row_change rows, uint32_t filter, int32_t *c, const int32_t *a)
 {
-    if (filter == 0)   /* no window: the plane is one long row */
-        row_functions[form_of(s)][rows][0](c, a, 0, 0, s->width * s->height, mask_of(s));
+    size_t first = r.from * s->width, count = (r.to - r.from) * s->width;
+    if (filter == 0)   /* no window: the rows are one long row */
+        row_functions[form_of(s)][rows][0](c + first, a + first, 0, 0, count, mask_of(s));
     else
-        for (size_t y = 0; y < s->height; y++)
+        for (size_t y = r.from; y < r.to; y++)
             change_row(s, rows, filter, c, a, y);
 }
 
-void lift(const setting *s, enum change change, uint32_t filter, int32_t *c, const int32_t *a)
+/* A step, or back, in rows of plane c; windows reach beyond these rows. */
+void lift(const setting *s, band r, enum change change, uint32_t filter, int32_t *c, const int32_t *a)
 {
     static const enum row_change row_changes[] = {
         [PLUS] = ROW_PLUS, [MINUS] = ROW_MINUS, [PLUS_HALF] = ROW_PLUS_HALF, [MINUS_HALF] = ROW_MINUS_HALF,
         [NEGATE] = ROW_NEGATE
     };
     if (filter != NULL_FILTER)   /* a step whose places are all null is skipped */
-        lift_rows(s, row_changes[change], filter, c, a);
+        lift_rows(s, r, row_changes[change], filter, c, a);
 }
 
 INLINE void quarter_of_samples(enum form form, int32_t mask, enum row_change change, int32_t *restrict c,
@@ -174,31 +176,32 @@ INLINE void quarter_of_samples(enum form form, int32_t mask, enum row_change cha
 }
 
 /* The quarter step with two filters 0 is one pass. */
-static void lift_quarter_of_samples(const setting *s, int plus, int32_t *c, const int32_t *a, const int32_t *b)
+static void lift_quarter_of_samples(const setting *s, band r, int plus, int32_t *c, const int32_t *a, const int32_t *b)
 {
-    size_t count = s->width * s->height;
+    size_t first = r.from * s->width, count = (r.to - r.from) * s->width;
     int32_t mask = mask_of(s);
+    c += first, a += first, b += first;
     if (s->wrapped && plus) quarter_of_samples(WRAPPED, mask, ROW_PLUS_QUARTER, c, a, b, count);
     else if (s->wrapped) quarter_of_samples(WRAPPED, mask, ROW_MINUS_QUARTER, c, a, b, count);
     else if (plus) quarter_of_samples(WHOLE, mask, ROW_PLUS_QUARTER, c, a, b, count);
     else quarter_of_samples(WHOLE, mask, ROW_MINUS_QUARTER, c, a, b, count);
 }
 
-void lift_quarter(const setting *s, enum change change, const uint8_t filters[2], int32_t *c, const int32_t *a,
+void lift_quarter(const setting *s, band r, enum change change, const uint8_t filters[2], int32_t *c, const int32_t *a,
                   const int32_t *b)
 {
     int plus = change == PLUS_QUARTER;
     if (filters[0] == NULL_FILTER || filters[1] == NULL_FILTER) {
         int other = filters[0] == NULL_FILTER;
         if (filters[other] != NULL_FILTER)
-            lift_rows(s, plus ? ROW_PLUS_QUARTER : ROW_MINUS_QUARTER, filters[other], c, other ? b : a);
+            lift_rows(s, r, plus ? ROW_PLUS_QUARTER : ROW_MINUS_QUARTER, filters[other], c, other ? b : a);
         return;
     }
     if (filters[0] == 0 && filters[1] == 0) {
-        lift_quarter_of_samples(s, plus, c, a, b);
+        lift_quarter_of_samples(s, r, plus, c, a, b);
         return;
     }
-    for (size_t y = 0; y < s->height; y++) {
+    for (size_t y = r.from; y < r.to; y++) {
         change_row(s, plus ? ROW_FOUR_PLUS : ROW_FOUR_MINUS, filters[0], c, a, y);
         change_row(s, plus ? ROW_QUARTER_PLUS : ROW_QUARTER_MINUS, filters[1], c, b, y);
     }

@@ -10,16 +10,36 @@ typedef struct {
     uint32_t list[16], count;
 } numbers;
 
+/* Filters that differ from band to band: means only, and all kinds. */
+static const mix mixes[] = {{"means", 4, {1, 3, 5, 11}}, {"mixed", 4, {0, 1, 5, 12}}};
+
+/* The calls that run a transform, by form. */
+static const struct {
+    enum kind kind;
+    uint32_t calls;
+    int wrapped, banded;
+} forms[] = {
+    {TRANSFORM, PLAIN_FORMS, 0, 0},
+    {WRAPPED_TRANSFORM, WRAPPED_FORMS, 1, 0},
+    {BANDED, BANDED_FORMS, 0, 1},
+    {WRAPPED_BANDED, WRAPPED_BANDED_FORMS, 1, 1},
+};
+#define ALL_BANDED (BANDED_FORMS | WRAPPED_BANDED_FORMS)
+#define COUNT(list) (sizeof (list) / sizeof *(list))
+
 static void usage(void)
 {
     fputs("options, with their defaults; lists have commas:\n"
-          "  -c forward,inverse,forward_wrapped,inverse_wrapped,estimate,search\n"
+          "  -c forward,inverse,forward_wrapped,inverse_wrapped,banded,estimate,search\n"
+          "                   banded is forward_banded,inverse_banded,forward_wrapped_banded,inverse_wrapped_banded\n"
           "  -t 0,1,2,3       transforms\n"
-          "  -f 0,1,5,11,12   filters, each at all places\n"
+          "  -f 0,1,5,11,12   filters, each at all places; banded calls also with filters that differ: place p of\n"
+          "                   band i has number (i + p) modulo 4 of 1,3,5,11 (means) or of 0,1,5,12 (mixed)\n"
           "  -d 8             depths, 2 to 16\n"
           "  -s 512,2048      sizes of squares, 1 to 8192\n"
+          "  -b 64            rows of a band, 1 to 8192; in lower pictures all rows\n"
           "  -r 0             runs of each side; 0: by the time they take\n"
-          "  -a               depths 8,16; sizes 512,1024,2048,4096 (estimate and search: 512,2048)\n",
+          "  -a               depths 8,16; sizes 512,1024,2048,4096 (banded, estimate and search: 512,2048)\n",
           stderr);
     exit(2);
 }
@@ -40,61 +60,89 @@ static numbers read_numbers(const char *text, uint32_t least, uint32_t most)
     }
 }
 
+static uint32_t call_named(const char *word)
+{
+    if (!strcmp(word, "banded"))
+        return ALL_BANDED;
+    for (uint32_t i = 0; i < CALLS; i++)
+        if (!strcmp(word, call_names[i]))
+            return 1u << i;
+    usage();
+    return 0;
+}
+
 static uint32_t read_calls(char *text)
 {
-    static const char *const names[] = {
-        "forward", "inverse", "forward_wrapped", "inverse_wrapped", "estimate", "search"
-    };
-    uint32_t calls = 0, count = sizeof names / sizeof *names, i;
-    for (char *word = strtok(text, ","); word; word = strtok(0, ",")) {
-        for (i = 0; i < count && strcmp(word, names[i]); i++)
-            ;
-        if (i == count)
-            usage();
-        calls |= 1u << i;
-    }
+    uint32_t calls = 0;
+    for (char *word = strtok(text, ","); word; word = strtok(0, ","))
+        calls |= call_named(word);
     return calls;
 }
 
-static void run_setting(const setting *s, const numbers *filters, uint32_t calls, uint32_t turns)
+static mix same_everywhere(uint32_t filter)
 {
-    setting wrapped = *s;
-    wrapped.wrapped = 1;
+    mix m = {"", 1, {(uint8_t)filter}};
+    snprintf(m.name, sizeof m.name, "%u", filter);
+    return m;
+}
+
+static void run_forms(const setting *s, int banded, const mix *m, uint32_t band_height, uint32_t calls, uint32_t turns)
+{
+    for (size_t i = 0; i < COUNT(forms); i++)
+        if (forms[i].banded == banded && calls & forms[i].calls) {
+            setting one = *s;
+            one.wrapped = forms[i].wrapped;
+            if (banded)
+                one.band_height = band_height < s->height ? band_height : s->height;
+            run_case(forms[i].kind, &one, m, calls & forms[i].calls, turns);
+        }
+}
+
+static void run_setting(const setting *s, const numbers *filters, uint32_t band_height, uint32_t calls, uint32_t turns)
+{
+    static const mix none = {"-", 1, {0}};
+    for (int banded = 0; banded < 2; banded++)
+        for (uint32_t i = 0; i < filters->count; i++) {
+            mix m = same_everywhere(filters->list[i]);
+            run_forms(s, banded, &m, band_height, calls, turns);
+        }
+    for (size_t i = 0; i < COUNT(mixes); i++)
+        run_forms(s, 1, &mixes[i], band_height, calls, turns);
     for (uint32_t i = 0; i < filters->count; i++) {
-        if (calls & PLAIN_FORMS)
-            run_case(TRANSFORM, s, filters->list[i], calls & PLAIN_FORMS, turns);
-        if (calls & WRAPPED_FORMS)
-            run_case(WRAPPED_TRANSFORM, &wrapped, filters->list[i], calls & WRAPPED_FORMS, turns);
-    }
-    for (uint32_t i = 0; i < filters->count; i++)
+        mix m = same_everywhere(filters->list[i]);
         if (calls & ESTIMATES)
-            run_case(ESTIMATE, s, filters->list[i], ESTIMATES, turns);
+            run_case(ESTIMATE, s, &m, ESTIMATES, turns);
+    }
     if (calls & SEARCHES)
-        run_case(SEARCH, s, 0, SEARCHES, turns);
+        run_case(SEARCH, s, &none, SEARCHES, turns);
 }
 
 static void print_worst(void)
 {
-    static const char *const names[KINDS] = {"transforms", "wrapped", "estimates", "searches"};
+    static const char *const names[KINDS] = {
+        "transforms", "wrapped", "banded", "wrapped_banded", "estimates", "searches"
+    };
     fputs("worst ratio:", stdout);
     for (uint32_t i = 0; i < KINDS; i++)
         if (worst_ratio[i] > 0) printf(" %s %.2f", names[i], worst_ratio[i]);
         else printf(" %s -", names[i]);
+    if (worst_to_plain > 0) printf("; banded to plain %.2f", worst_to_plain);
     puts("");
 }
 
 int main(int argc, char **argv)
 {
     numbers t = {{0, 1, 2, 3}, 4}, f = {{0, 1, 5, 11, 12}, 5}, d = {{8}, 1}, s = {{512, 2048}, 2};
-    uint32_t calls = PLAIN_FORMS | WRAPPED_FORMS | ESTIMATES | SEARCHES, turns = 0, most = 0;
+    uint32_t calls = PLAIN_FORMS | WRAPPED_FORMS | ALL_BANDED | ESTIMATES | SEARCHES, turns = 0, most = 0, rows = 64;
     int all = 0, o;
-    while ((o = getopt(argc, argv, "c:t:f:d:s:r:ah")) != -1)
+    while ((o = getopt(argc, argv, "c:t:f:d:s:b:r:ah")) != -1)
         switch (o) {
         case 'c': calls = read_calls(optarg); break;
         case 't': t = read_numbers(optarg, 0, 3); break;
         case 'f': f = read_numbers(optarg, 0, 12); break;
         case 'd': d = read_numbers(optarg, 2, 16); break;
         case 's': s = read_numbers(optarg, 1, 8192); break;
+        case 'b': rows = read_numbers(optarg, 1, 8192).list[0]; break;
         case 'r': turns = read_numbers(optarg, 0, 1000).list[0]; break;
         case 'a': all = 1; break;
         default: usage();
@@ -105,18 +153,18 @@ int main(int argc, char **argv)
         d = (numbers){{8, 16}, 2}, s = (numbers){{512, 1024, 2048, 4096}, 4};
     for (uint32_t i = 0; i < s.count; i++)
         most = s.list[i] > most ? s.list[i] : most;
-    allocate(most);
+    allocate(most, calls & ALL_BANDED ? 3 : 2);
     fill_logarithms();
-    printf("%-24s %5s %5s %6s %11s %11s %6s %9s\n", "call", "size", "depth", "filter", "library ms", "C ms", "ratio",
-           "to memcpy");
+    printf("%-31s %5s %5s %6s %11s %11s %6s %9s %8s\n", "call", "size", "depth", "filter", "library ms", "C ms",
+           "ratio", "to memcpy", "to plain");
     for (uint32_t i = 0; i < s.count; i++)
         for (uint32_t j = 0; j < d.count; j++)
             for (uint32_t k = 0; k < t.count; k++) {
-                setting one = {s.list[i], s.list[i], d.list[j], t.list[k], 0};
+                setting one = {s.list[i], s.list[i], d.list[j], t.list[k], 0, 0};
                 int transforms_only = all && one.width != 512 && one.width != 2048;
                 if (k == 0)
                     draw_picture(&one);
-                run_setting(&one, &f, transforms_only ? calls & (PLAIN_FORMS | WRAPPED_FORMS) : calls, turns);
+                run_setting(&one, &f, rows, transforms_only ? calls & (PLAIN_FORMS | WRAPPED_FORMS) : calls, turns);
             }
     print_worst();
     return 0;

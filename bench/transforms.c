@@ -32,6 +32,17 @@ int changes_plane(uint32_t transform, uint32_t first_step, uint32_t plane)
     return 0;
 }
 
+static size_t rows_of_bands(const setting *s) { return s->band_height ? s->band_height : s->height; }
+
+size_t bands_of(const setting *s) { return (s->height + rows_of_bands(s) - 1) / rows_of_bands(s); }
+
+/* The last band may be shorter. */
+band band_at(const setting *s, size_t i)
+{
+    size_t from = i * rows_of_bands(s), to = from + rows_of_bands(s);
+    return (band){from, to < s->height ? to : s->height};
+}
+
 /* With q = 2^(b-2): from -(aq - b) to cq - d, for the entry {a, b, c, d}. */
 void range_of(uint32_t depth, uint32_t transform, uint32_t plane, int32_t *low, int32_t *high)
 {
@@ -46,15 +57,24 @@ void range_of(uint32_t depth, uint32_t transform, uint32_t plane, int32_t *low, 
     *high = r[2] * q - r[3];
 }
 
-static void change_plane(const setting *s, const step *e, int undo, const uint8_t *choices, int32_t *const planes[3])
+static void change_rows(const setting *s, band r, const step *e, int undo, const uint8_t *choices,
+                        int32_t *const planes[3])
 {
     enum change change = undo && e->change != NEGATE ? e->change ^ 1 : e->change;
     int32_t *c = planes[e->plane];
     const int32_t *a = planes[e->source];
     if (e->change == PLUS_QUARTER)
-        lift_quarter(s, change, choices + e->place, c, a, planes[e->second]);
+        lift_quarter(s, r, change, choices + e->place, c, a, planes[e->second]);
     else
-        lift(s, change, choices[e->place], c, a);
+        lift(s, r, change, choices[e->place], c, a);
+}
+
+/* All bands of a step, each with its own choices, come before the next step. */
+static void change_plane(const setting *s, const step *e, int undo, const uint8_t *choices, int32_t *const planes[3])
+{
+    size_t bands = bands_of(s), places = places_of(s->transform);
+    for (size_t i = 0; i < bands; i++)
+        change_rows(s, band_at(s, i), e, undo, choices + i * places, planes);
 }
 
 void run_steps(const setting *s, const uint8_t *choices, int32_t *const planes[3], uint32_t from, uint32_t to)

@@ -28,17 +28,29 @@
    before anything is reduced. Null steps are skipped here too. At depth 8 and with filters 0, RDgDb's
    wrapped form gives 10, 66, 140 for the pixel 10, 200, 60, and its plain form 10, -190, 140.
    Every three planes of 0 to M are what exactly one picture goes to in a wrapped form. These forms
-   have two calls, rulantip_forward_wrapped and rulantip_inverse_wrapped; the estimate and the search
-   are about the plain forms. Nothing in the planes tells their form: bring them back by the inverse of
-   the same form, with the same choices. The other inverse may refuse them or leave another picture.
+   have calls of their own, with `wrapped` in their names; the estimate and the search are about the
+   plain forms. Nothing in the planes tells their form: bring them back by the inverse of the same
+   form, with the same choices. The other inverse may refuse them or leave another picture.
+
+   BANDS change the filters down the picture. A band is band_height rows, counted from the top; the last
+   band may be shorter. So there are (height + band_height - 1) / band_height bands, rounded down, and
+   the choices are a whole set for each of them, set after set from the top band: places * bands in
+   number. Each row uses its band's set. Everything else is as without bands: a window is the whole
+   picture's and reads across the edges of bands, and a step covers the whole picture before the next
+   begins. A step is skipped row by row: where a band has null at all places of the step, the band's
+   rows stay as they are. One band as high as the picture does what the call without bands does, and so
+   do equal sets for all bands. Bands have four calls, with `banded` in their names; the estimate and
+   the search have none. The planes tell nothing of bands: bring them back with the same band height
+   and choices.
 
    WHAT A NUMBER DEPENDS ON. A picture's finished numbers at a pixel depend only on the samples at most d
    rows and d columns away, d being 1 for RDgDb, 2 for RCT, 3 for LDgEb and 4 for YCoCg-R, in all three
-   planes and both forms: two pictures that agree there have the same numbers at the pixel, whatever
-   stands elsewhere. Back, d is 2 for every transform: a damaged number, where the inverse still
-   accepts, spoils only the pixels at most 2 rows and 2 columns away. A part of a picture, transformed
-   by itself with the same choices, has the whole picture's numbers at every pixel with d pixels of the
-   part between it and each side that was cut; the picture's own border is no cut.
+   planes and both forms, with bands or without: two pictures that agree there have the same numbers at
+   the pixel, whatever stands elsewhere. Back, d is 2 for every transform: a damaged number, where the
+   inverse still accepts, spoils only the pixels at most 2 rows and 2 columns away. A part of a picture,
+   transformed by itself with the same choices for its rows, has the whole picture's numbers at every
+   pixel with d pixels of the part between it and each side that was cut; the picture's own border is
+   no cut.
 
    WHAT THE CALLER OWES, and no call can test:
    - Each pointer points to as many elements as the length after it says. For length 0 any pointer
@@ -79,15 +91,17 @@ extern "C" {
 /* Refusals that the calling program can cause, with number 2. */
 #define RULANTIP_REFUSED_DEPTH 5         /* any of the three depths outside 2 to 16 */
 #define RULANTIP_REFUSED_TRANSFORM 6     /* transform above 3 */
-#define RULANTIP_REFUSED_CHOICES 7       /* not one choice for each place, or a choice above 12 */
+#define RULANTIP_REFUSED_CHOICES 7       /* not one choice for each place, with bands not one for each place
+                                            of each band, or a choice above 12 */
 #define RULANTIP_REFUSED_PLANE 8         /* a plane's length is not width * height */
 #define RULANTIP_REFUSED_SCRATCH 9       /* a trial plane below width * height numbers, or too few counters */
 #define RULANTIP_REFUSED_ROUNDS 10       /* rounds outside 1 to 4 */
 #define RULANTIP_REFUSED_UNEQUAL 16      /* a wrapped form, and the three depths differ */
+#define RULANTIP_REFUSED_BAND 17         /* band height 0 or above the picture's height */
 
 /* Refusals that whoever made the samples can cause. */
 #define RULANTIP_REFUSED_SAMPLE 11       /* a sample of the picture outside 0 to its plane's M; also a number
-                                            of the planes that rulantip_inverse_wrapped is lent */
+                                            of the planes that a wrapped form's inverse is lent */
 #define RULANTIP_REFUSED_UNREACHED 12    /* planes that no picture of these depths goes to */
 
 /* RANGES of finished planes, under any choices; in a wrapped form they are 0 to M. M1, M2 and M3 are
@@ -205,6 +219,85 @@ uint32_t rulantip_inverse_wrapped(
     uint32_t depth2,
     uint32_t depth3,
     uint32_t transform,
+    const uint8_t *choices,
+    size_t choices_len,
+    int32_t *c1,            /* finished plane 1, R after success */
+    size_t c1_len,
+    int32_t *c2,            /* finished plane 2, G after success */
+    size_t c2_len,
+    int32_t *c3,            /* finished plane 3, B after success */
+    size_t c3_len
+);
+
+/* As rulantip_forward, with bands. Tests, in this order: 2, 5, 6, 17, 7, 8, 11. */
+uint32_t rulantip_forward_banded(
+    uint32_t width,         /* as in rulantip_forward, to the end */
+    uint32_t height,
+    uint32_t depth1,
+    uint32_t depth2,
+    uint32_t depth3,
+    uint32_t transform,
+    uint32_t band_height,   /* the rows of a band, 1 to height */
+    const uint8_t *choices, /* the filter of each place, 0 to 12, set after set from the top band */
+    size_t choices_len,     /* places * bands */
+    int32_t *c1,
+    size_t c1_len,
+    int32_t *c2,
+    size_t c2_len,
+    int32_t *c3,
+    size_t c3_len
+);
+
+/* As rulantip_inverse, with the bands of the forward call. Tests, in this order: 2, 5, 6, 17, 7, 8, 12.
+   It refuses with 12 exactly where no picture of these depths goes to the planes lent with these
+   bands. */
+uint32_t rulantip_inverse_banded(
+    uint32_t width,         /* as in rulantip_forward_banded, to the end */
+    uint32_t height,
+    uint32_t depth1,
+    uint32_t depth2,
+    uint32_t depth3,
+    uint32_t transform,
+    uint32_t band_height,
+    const uint8_t *choices,
+    size_t choices_len,
+    int32_t *c1,            /* finished plane 1, R after success */
+    size_t c1_len,
+    int32_t *c2,            /* finished plane 2, G after success */
+    size_t c2_len,
+    int32_t *c3,            /* finished plane 3, B after success */
+    size_t c3_len
+);
+
+/* As rulantip_forward_wrapped, with bands. Tests, in this order: 2, 5, 16, 6, 17, 7, 8, 11. */
+uint32_t rulantip_forward_wrapped_banded(
+    uint32_t width,         /* as in rulantip_forward_banded, to the end */
+    uint32_t height,
+    uint32_t depth1,        /* b of all planes; the three must be equal */
+    uint32_t depth2,
+    uint32_t depth3,
+    uint32_t transform,
+    uint32_t band_height,
+    const uint8_t *choices,
+    size_t choices_len,
+    int32_t *c1,
+    size_t c1_len,
+    int32_t *c2,
+    size_t c2_len,
+    int32_t *c3,
+    size_t c3_len
+);
+
+/* As rulantip_inverse_wrapped, with the bands of the forward call. Tests, in this order: 2, 5, 16, 6,
+   17, 7, 8, 11; never 12. */
+uint32_t rulantip_inverse_wrapped_banded(
+    uint32_t width,         /* as in rulantip_forward_wrapped_banded, to the end */
+    uint32_t height,
+    uint32_t depth1,
+    uint32_t depth2,
+    uint32_t depth3,
+    uint32_t transform,
+    uint32_t band_height,
     const uint8_t *choices,
     size_t choices_len,
     int32_t *c1,            /* finished plane 1, R after success */

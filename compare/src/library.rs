@@ -23,11 +23,12 @@ pub enum Refusal {
     Sample = 11,
     Unreached = 12,
     Unequal = 16,
+    Band = 17,
 }
 
 impl Refusal {
     /// Every refusal, in the order of the numbers.
-    pub const ALL: [Refusal; 13] = [
+    pub const ALL: [Refusal; 14] = [
         Refusal::Header,
         Refusal::Size,
         Refusal::Maxval,
@@ -41,6 +42,7 @@ impl Refusal {
         Refusal::Sample,
         Refusal::Unreached,
         Refusal::Unequal,
+        Refusal::Band,
     ];
 
     pub fn number(self) -> u32 {
@@ -57,13 +59,14 @@ impl fmt::Display for Refusal {
             Refusal::Raster => "other than 3 * width * height bytes follow the header",
             Refusal::Depth => "a depth is outside 2 to 16",
             Refusal::Transform => "the transform is above 3",
-            Refusal::Choices => "there is not one choice for each place, or a choice is above 12",
+            Refusal::Choices => "the number of choices is wrong, or a choice is above 12",
             Refusal::Plane => "a plane's length is not width * height",
             Refusal::Scratch => "a trial plane is short, or there are too few counters",
             Refusal::Rounds => "the rounds are outside 1 to 4",
             Refusal::Sample => "a sample is outside its plane's depth",
             Refusal::Unreached => "no picture goes to these planes",
             Refusal::Unequal => "the three depths differ",
+            Refusal::Band => "the band height is 0 or above the picture's",
         })
     }
 }
@@ -136,6 +139,47 @@ pub fn forward_wrapped(settings: Settings, choices: &[u8], planes: [&mut [i32]; 
 /// Changes planes to the picture that goes to them in the wrapped form, in place. The depths must be equal.
 pub fn inverse_wrapped(settings: Settings, choices: &[u8], planes: [&mut [i32]; 3]) -> Result<(), Refusal> {
     in_place(c::rulantip_inverse_wrapped, settings, choices, planes)
+}
+
+/// As `forward`, with a set of choices for each band of that many rows, set after set from the top; the last band may
+/// be shorter.
+pub fn forward_banded(
+    settings: Settings,
+    band_height: u32,
+    choices: &[u8],
+    planes: [&mut [i32]; 3],
+) -> Result<(), Refusal> {
+    in_place_banded(c::rulantip_forward_banded, settings, band_height, choices, planes)
+}
+
+/// As `inverse`, with bands as in `forward_banded`.
+pub fn inverse_banded(
+    settings: Settings,
+    band_height: u32,
+    choices: &[u8],
+    planes: [&mut [i32]; 3],
+) -> Result<(), Refusal> {
+    in_place_banded(c::rulantip_inverse_banded, settings, band_height, choices, planes)
+}
+
+/// As `forward_wrapped`, with bands as in `forward_banded`.
+pub fn forward_wrapped_banded(
+    settings: Settings,
+    band_height: u32,
+    choices: &[u8],
+    planes: [&mut [i32]; 3],
+) -> Result<(), Refusal> {
+    in_place_banded(c::rulantip_forward_wrapped_banded, settings, band_height, choices, planes)
+}
+
+/// As `inverse_wrapped`, with bands as in `forward_banded`.
+pub fn inverse_wrapped_banded(
+    settings: Settings,
+    band_height: u32,
+    choices: &[u8],
+    planes: [&mut [i32]; 3],
+) -> Result<(), Refusal> {
+    in_place_banded(c::rulantip_inverse_wrapped_banded, settings, band_height, choices, planes)
 }
 
 /// The estimate of a picture under the choices.
@@ -233,6 +277,27 @@ fn in_place(call: c::InPlace, settings: Settings, choices: &[u8], planes: [&mut 
     refusal(answer)
 }
 
+fn in_place_banded(
+    call: c::InPlaceBanded,
+    settings: Settings,
+    band_height: u32,
+    choices: &[u8],
+    planes: [&mut [i32]; 3],
+) -> Result<(), Refusal> {
+    let Settings { width, height, depths: [depth1, depth2, depth3], transform } = settings;
+    let [c1, c2, c3] = planes;
+    // SAFETY: every pointer and length is a slice's; what is written is lent as &mut.
+    #[rustfmt::skip]
+    let answer = unsafe {
+        call(
+            width, height, depth1, depth2, depth3, transform, band_height,
+            choices.as_ptr(), choices.len(),
+            c1.as_mut_ptr(), c1.len(), c2.as_mut_ptr(), c2.len(), c3.as_mut_ptr(), c3.len(),
+        )
+    };
+    refusal(answer)
+}
+
 /// The C functions as `include/rulantip.h` declares them.
 pub mod c {
     #[repr(C)]
@@ -252,10 +317,18 @@ pub mod c {
         pub depth: u32,
     }
 
-    /// The type of the four calls that change planes in place.
+    /// The type of the four calls that change planes in place, without bands.
     #[rustfmt::skip]
     pub type InPlace = unsafe extern "C" fn(
         u32, u32, u32, u32, u32, u32,
+        *const u8, usize,
+        *mut i32, usize, *mut i32, usize, *mut i32, usize,
+    ) -> u32;
+
+    /// The type of the same four with bands.
+    #[rustfmt::skip]
+    pub type InPlaceBanded = unsafe extern "C" fn(
+        u32, u32, u32, u32, u32, u32, u32,
         *const u8, usize,
         *mut i32, usize, *mut i32, usize, *mut i32, usize,
     ) -> u32;
@@ -283,6 +356,34 @@ pub mod c {
 
         pub fn rulantip_inverse_wrapped(
             width: u32, height: u32, depth1: u32, depth2: u32, depth3: u32, transform: u32,
+            choices: *const u8, choices_len: usize,
+            c1: *mut i32, c1_len: usize, c2: *mut i32, c2_len: usize, c3: *mut i32, c3_len: usize,
+        ) -> u32;
+
+        pub fn rulantip_forward_banded(
+            width: u32, height: u32, depth1: u32, depth2: u32, depth3: u32, transform: u32,
+            band_height: u32,
+            choices: *const u8, choices_len: usize,
+            c1: *mut i32, c1_len: usize, c2: *mut i32, c2_len: usize, c3: *mut i32, c3_len: usize,
+        ) -> u32;
+
+        pub fn rulantip_inverse_banded(
+            width: u32, height: u32, depth1: u32, depth2: u32, depth3: u32, transform: u32,
+            band_height: u32,
+            choices: *const u8, choices_len: usize,
+            c1: *mut i32, c1_len: usize, c2: *mut i32, c2_len: usize, c3: *mut i32, c3_len: usize,
+        ) -> u32;
+
+        pub fn rulantip_forward_wrapped_banded(
+            width: u32, height: u32, depth1: u32, depth2: u32, depth3: u32, transform: u32,
+            band_height: u32,
+            choices: *const u8, choices_len: usize,
+            c1: *mut i32, c1_len: usize, c2: *mut i32, c2_len: usize, c3: *mut i32, c3_len: usize,
+        ) -> u32;
+
+        pub fn rulantip_inverse_wrapped_banded(
+            width: u32, height: u32, depth1: u32, depth2: u32, depth3: u32, transform: u32,
+            band_height: u32,
             choices: *const u8, choices_len: usize,
             c1: *mut i32, c1_len: usize, c2: *mut i32, c2_len: usize, c3: *mut i32, c3_len: usize,
         ) -> u32;

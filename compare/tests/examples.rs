@@ -72,9 +72,15 @@ fn expected(file: &[u8]) -> String {
     }
     let (_, settings, filters) = best.unwrap();
     writeln!(text, "best {}", NAMES[settings.transform as usize]).unwrap();
-    text += &held(forward(settings, &filters, planes).unwrap());
+    text += &held(forward(settings, None, &filters, planes).unwrap());
     writeln!(text, "wrapped, in {} bytes", 3 * samples).unwrap();
-    text + &held(forward_wrapped(settings, &filters, planes).unwrap())
+    text += &held(forward_wrapped(settings, None, &filters, planes).unwrap());
+    let rows = height.min(16);
+    writeln!(text, "in bands of {rows} rows, every second one left as it is").unwrap();
+    let nulls = vec![12; filters.len()];
+    let set = |band: u32| if band % 2 == 0 { &filters } else { &nulls };
+    let sets: Vec<u8> = (0..height.div_ceil(rows)).flat_map(|band| set(band).clone()).collect();
+    text + &held(forward(settings, Some(rows), &sets, planes).unwrap())
 }
 
 fn files() -> Vec<Vec<u8>> {

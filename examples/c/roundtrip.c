@@ -1,5 +1,5 @@
 /* Reads a P6 file, finds the best transform and filters, transforms the picture and brings it back; then once more in
-   the wrapped form, whose planes fit bytes. */
+   the wrapped form, whose planes fit bytes, and once in bands of rows, every second of which is left as it is. */
 
 #include "rulantip.h"
 
@@ -9,7 +9,7 @@
 static const char *const names[4] = {"RCT", "YCoCg-R", "RDgDb", "LDgEb"};
 static const size_t places[4] = {4, 4, 2, 3};
 
-static const char *const causes[17] = {
+static const char *const causes[18] = {
     "success",
     "the header does not have the form of P6",
     "width or height is outside 1 to 8,192",
@@ -17,7 +17,7 @@ static const char *const causes[17] = {
     "other than 3 * width * height bytes follow the header",
     "a depth is outside 2 to 16",
     "the transform is above 3",
-    "there is not one choice for each place, or a choice is above 12",
+    "the number of choices is wrong, or a choice is above 12",
     "a plane's length is not width * height",
     "a trial plane is short, or there are too few counters",
     "the rounds are outside 1 to 4",
@@ -25,7 +25,10 @@ static const char *const causes[17] = {
     "no picture goes to these planes",
     NULL, NULL, NULL,
     "the three depths differ",
+    "the band height is 0 or above the picture's",
 };
+
+enum { BAND_HEIGHT = 16, NULL_FILTER = 12 };
 
 static void stop(const char *what, const char *why)
 {
@@ -35,7 +38,7 @@ static void stop(const char *what, const char *why)
 
 static void stop_refused(const char *what, uint32_t refusal)
 {
-    const char *cause = refusal <= 16 ? causes[refusal] : NULL;
+    const char *cause = refusal <= 17 ? causes[refusal] : NULL;
 
     fprintf(stderr, "%s: refused %u, %s\n", what, (unsigned)refusal, cause != NULL ? cause : "no cause known");
     exit(1);
@@ -157,6 +160,31 @@ static void through_bytes(const rulantip_pixmap *picture, uint32_t transform, co
     free(bytes);
 }
 
+/* Transforms the picture in bands and brings it back. The first band has the choices, the second null at every place, and
+   so on in turns. */
+static void in_bands(const rulantip_pixmap *picture, uint32_t transform, const uint8_t *choices,
+                     int32_t *c1, int32_t *c2, int32_t *c3, size_t samples)
+{
+    uint32_t width = picture->width, height = picture->height, depth = picture->depth, refusal;
+    uint32_t rows = height < BAND_HEIGHT ? height : BAND_HEIGHT;
+    size_t count = places[transform] * ((height + rows - 1) / rows), i;
+    uint8_t *sets = memory(count, 1);
+
+    for (i = 0; i < count; i++)
+        sets[i] = i / places[transform] % 2 == 0 ? choices[i % places[transform]] : NULL_FILTER;
+    refusal = rulantip_forward_banded(width, height, depth, depth, depth, transform, rows, sets, count,
+                                      c1, samples, c2, samples, c3, samples);
+    if (refusal != 0)
+        stop_refused("forward, in bands", refusal);
+    printf("in bands of %u rows, every second one left as it is\n", (unsigned)rows);
+    print_ranges(c1, c2, c3, samples);
+    refusal = rulantip_inverse_banded(width, height, depth, depth, depth, transform, rows, sets, count,
+                                      c1, samples, c2, samples, c3, samples);
+    if (refusal != 0)
+        stop_refused("inverse, in bands", refusal);
+    free(sets);
+}
+
 int main(int argc, char **argv)
 {
     size_t length, samples, counters, i;
@@ -225,6 +253,9 @@ int main(int argc, char **argv)
     compare(argv[1], raster, c1, c2, c3, samples);
 
     through_bytes(&picture, best, choices[best], c1, c2, c3, samples);
+    compare(argv[1], raster, c1, c2, c3, samples);
+
+    in_bands(&picture, best, choices[best], c1, c2, c3, samples);
     compare(argv[1], raster, c1, c2, c3, samples);
 
     free(file);

@@ -1,14 +1,17 @@
 //! Reads a P6 file, finds the best transform and filters, transforms the picture and brings it back; then once more in the
-//! wrapped form, whose planes fit bytes.
+//! wrapped form, whose planes fit bytes, and once in bands of rows, every second of which is left as it is.
 
 #[path = "../../compare/src/library.rs"]
 mod library;
 
-use library::{counters, forward, forward_wrapped, inverse, inverse_wrapped, pixmap, pixmap_planes, places, search};
-use library::{Refusal, Scratch, Settings};
+use library::{counters, forward, forward_banded, forward_wrapped, inverse, inverse_banded, inverse_wrapped};
+use library::{pixmap, pixmap_planes, places, search, Refusal, Scratch, Settings};
 use std::process::exit;
 
 const NAMES: [&str; 4] = ["RCT", "YCoCg-R", "RDgDb", "LDgEb"];
+
+const BAND_HEIGHT: u32 = 16;
+const NULL_FILTER: u8 = 12;
 
 fn stop(what: &str, why: &str) -> ! {
     eprintln!("{what}: {why}");
@@ -51,6 +54,21 @@ fn through_bytes(settings: Settings, choices: &[u8], planes: &mut [Vec<i32>; 3])
     }
     inverse_wrapped(settings, choices, planes.each_mut().map(Vec::as_mut_slice))
         .unwrap_or_else(|refusal| stop_refused("inverse, wrapped", refusal));
+}
+
+/// Transforms the picture in bands and brings it back. The first band has the choices, the second null at every place, and
+/// so on in turns.
+fn in_bands(settings: Settings, choices: &[u8], planes: &mut [Vec<i32>; 3]) {
+    let rows = settings.height.min(BAND_HEIGHT);
+    let nulls = vec![NULL_FILTER; choices.len()];
+    let bands = settings.height.div_ceil(rows) as usize;
+    let sets: Vec<u8> = [choices, &nulls].into_iter().cycle().take(bands).flatten().copied().collect();
+    forward_banded(settings, rows, &sets, planes.each_mut().map(Vec::as_mut_slice))
+        .unwrap_or_else(|refusal| stop_refused("forward, in bands", refusal));
+    println!("in bands of {rows} rows, every second one left as it is");
+    print_ranges(planes);
+    inverse_banded(settings, rows, &sets, planes.each_mut().map(Vec::as_mut_slice))
+        .unwrap_or_else(|refusal| stop_refused("inverse, in bands", refusal));
 }
 
 fn main() {
@@ -98,5 +116,8 @@ fn main() {
     compare(name, picture.raster, &planes);
 
     through_bytes(settings, &choices, &mut planes);
+    compare(name, picture.raster, &planes);
+
+    in_bands(settings, &choices, &mut planes);
     compare(name, picture.raster, &planes);
 }

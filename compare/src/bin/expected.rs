@@ -115,7 +115,7 @@ fn answer(words: &[&str]) -> Result<Vec<u8>, u32> {
                 let Estimated { estimate, samples } = reference::estimate(told, &filters, lent, AMPLE)?;
                 format!("{estimate} {samples}\n")
             } else {
-                let finished = reference::forward(told, &filters, lent)?;
+                let finished = reference::forward(told, None, &filters, lent)?;
                 if words[0] == "forward" {
                     rows(told.width, &finished)
                 } else {
@@ -134,7 +134,7 @@ fn answer(words: &[&str]) -> Result<Vec<u8>, u32> {
         ["inverse", w, h, b, t, filters, p1, p2, p3] => {
             let told = settings(&[w, h, b, t]);
             let planes: [Vec<i32>; 3] = [p1, p2, p3].map(|plane| numbers(plane));
-            rows(told.width, &reference::inverse(told, &numbers(filters), planes.each_ref().map(Vec::as_slice))?)
+            rows(told.width, &reference::inverse(told, None, &numbers(filters), planes.each_ref().map(Vec::as_slice))?)
         }
         ["logarithms", first, last] => {
             let (first, last): (usize, usize) = (number(first), number(last));

@@ -5,7 +5,7 @@
 //!     cargo run --release --bin gate -- search_cases >../crates/search_cases/stdout
 
 use compare::generator::{self, Congruential};
-use compare::reference::{self, Estimated, Scratch, Settings};
+use compare::reference::{self, Answer, Call, Estimated, Scratch, Settings};
 use std::process::exit;
 
 const USAGE: &str = "\
@@ -14,7 +14,6 @@ gate search_cases     what the program `search_cases` writes
 ";
 
 type Planes = [Vec<i32>; 3];
-type Answer = Result<Planes, u32>;
 
 fn lent(planes: &Planes) -> [&[i32]; 3] {
     planes.each_ref().map(Vec::as_slice)
@@ -58,8 +57,6 @@ fn choices(transform: u32, n: u32) -> Vec<u8> {
     (0..places as u32).map(|place| ((n + 3 * place) % 13) as u8).collect()
 }
 
-type Call = fn(Settings, &[u8], [&[i32]; 3]) -> Answer;
-
 /// A form's word, and its calls there and back.
 const FORMS: [(&str, Call, Call); 2] = [
     ("", reference::forward, reference::inverse),
@@ -69,9 +66,9 @@ const FORMS: [(&str, Call, Call); 2] = [
 /// Forward and, on what that leaves, back, in both forms.
 fn limit(settings: Settings, filters: &[u8], planes: Planes, short: bool) {
     for (form, there, back) in FORMS {
-        let forward = there(settings, filters, lent(&planes));
+        let forward = there(settings, None, filters, lent(&planes));
         let finished = left(&planes, &forward);
-        let inverse = back(settings, filters, lent(&finished));
+        let inverse = back(settings, None, filters, lent(&finished));
         let again = left(&finished, &inverse);
         let told = told_filters(settings, filters);
         let (forward, inverse) = (answered(&forward), answered(&inverse));
@@ -134,34 +131,31 @@ fn compared(planes: &Planes, picture: &Planes) -> &'static str {
 }
 
 /// The picture in the wrapped form, with its deepest depth for all planes: there and back, then back and there.
-fn wrapped(settings: Settings, filters: &[u8], picture: &Planes) {
+fn wrapped(settings: Settings, band_height: Option<u32>, filters: &[u8], picture: &Planes) {
     let [_, (_, there, back)] = FORMS;
     let deepest = settings.depths.into_iter().max().unwrap();
     let settings = Settings { depths: [deepest; 3], ..settings };
     println!("wrapped to bits {deepest}");
     for (first, then, words) in [(there, back, ["forward", "inverse"]), (back, there, ["inverse", "forward"])] {
-        let answer = first(settings, filters, lent(picture));
+        let answer = first(settings, band_height, filters, lent(picture));
         let after = left(picture, &answer);
         println!("{} {}{}", words[0], answered(&answer), numbers(&after));
-        let answer = then(settings, filters, lent(&after));
+        let answer = then(settings, band_height, filters, lent(&after));
         println!("{} {} {}", words[1], answered(&answer), compared(&left(&after, &answer), picture));
     }
 }
 
 /// Picture `k`: there and back, then with a finished plane's middle number replaced, then in the wrapped form.
-fn picture(k: u32) {
-    let (width, height) = [(1, 1), (1, 6), (7, 1), (2, 2), (3, 3), (5, 4), (4, 3)][k as usize % 7];
-    let depths = [2 + k % 15, 16 - k % 15, 2 + k / 4 % 15];
-    let settings = Settings { width, height, depths, transform: k % 4 };
-    let filters = choices(settings.transform, k / 4);
-    let picture = generator::picture(width, height, depths, k);
-    println!("picture {k} {}", told_filters(settings, &filters));
+fn picture(k: u32, settings: Settings, band_height: Option<u32>, filters: &[u8]) {
+    let picture = generator::picture(settings.width, settings.height, settings.depths, k);
+    let bands = band_height.map_or(String::new(), |rows| format!(" bands of {rows}"));
+    println!("picture {k} {}{bands}", told_filters(settings, filters));
 
-    let forward = reference::forward(settings, &filters, lent(&picture));
+    let forward = reference::forward(settings, band_height, filters, lent(&picture));
     let finished = left(&picture, &forward);
     println!("forward {}{}", answered(&forward), numbers(&finished));
 
-    let inverse = reference::inverse(settings, &filters, lent(&finished));
+    let inverse = reference::inverse(settings, band_height, filters, lent(&finished));
     let back = format!("inverse {} {}", answered(&inverse), compared(&left(&finished, &inverse), &picture));
     println!("{back}");
 
@@ -171,21 +165,33 @@ fn picture(k: u32) {
     let middle = damaged[0].len() / 2;
     damaged[plane as usize][middle] = number;
     print!("plane {} damaged by {number}", plane + 1);
-    let inverse = reference::inverse(settings, &filters, lent(&damaged));
+    let inverse = reference::inverse(settings, band_height, filters, lent(&damaged));
     print!(" inverse {}", answered(&inverse));
     if let Ok(other) = &inverse {
-        let again = reference::forward(settings, &filters, lent(other));
+        let again = reference::forward(settings, band_height, filters, lent(other));
         assert_eq!(again.as_ref(), Ok(&damaged));
         print!("{} forward {}", numbers(other), answered(&again));
     }
     println!();
     println!("{back}");
-    wrapped(settings, &filters, &picture);
+    wrapped(settings, band_height, filters, &picture);
+}
+
+/// Picture `k` with one set of choices, and in bands, where band b has the filters of picture k + 4 b.
+fn picture_and_bands(k: u32) {
+    let (width, height) = [(1, 1), (1, 6), (7, 1), (2, 2), (3, 3), (5, 4), (4, 3)][k as usize % 7];
+    let depths = [2 + k % 15, 16 - k % 15, 2 + k / 4 % 15];
+    let settings = Settings { width, height, depths, transform: k % 4 };
+    picture(k, settings, None, &choices(settings.transform, k / 4));
+    let band_height = [1, 1, 2, 3, 1, 2][height as usize - 1];
+    let sets: Vec<u8> =
+        (0..height.div_ceil(band_height)).flat_map(|band| choices(settings.transform, k / 4 + band)).collect();
+    picture(k, settings, Some(band_height), &sets);
 }
 
 fn transform_cases() {
     limits();
-    (0..52).for_each(picture);
+    (0..52).for_each(picture_and_bands);
 }
 
 /// A slope with the generator's noise on it, modulo the plane's M + 1.

@@ -37,18 +37,21 @@ pub struct Found {
 /// The planes after a call, or why it refuses.
 pub type Answer = Result<[Vec<i32>; 3], RefusalNumber>;
 
+/// One of the calls that change planes.
+pub type Call = fn(Settings, Option<u32>, &[u8], [&[i32]; 3]) -> Answer;
+
 /// `run` or `undo`.
-type Steps = fn(Form, u32, usize, usize, &[u8], Planes) -> Planes;
+type Steps = fn(Form, u32, usize, usize, Option<u32>, &[u8], Planes) -> Planes;
 
 impl Settings {
     fn samples(&self) -> usize {
         self.width as usize * self.height as usize
     }
 
-    /// Refusals 2, 5, 6 and the part of 7 on the number of choices.
-    fn test(&self, choices: usize) -> Result<(), RefusalNumber> {
+    /// Refusals 2, 5, 6, 17 and the part of 7 on the number of choices.
+    fn test(&self, band_height: Option<u32>, choices: usize) -> Result<(), RefusalNumber> {
         self.test_size_and_depths()?;
-        self.test_transform(choices)
+        self.test_transform(band_height, choices)
     }
 
     /// Refusals 2 and 5.
@@ -72,15 +75,24 @@ impl Settings {
         }
     }
 
-    /// Refusal 6 and the part of 7 on the number of choices.
-    fn test_transform(&self, choices: usize) -> Result<(), RefusalNumber> {
+    /// Refusals 6, 17 and the part of 7 on the number of choices.
+    fn test_transform(&self, band_height: Option<u32>, choices: usize) -> Result<(), RefusalNumber> {
         if self.transform >= TRANSFORMS {
             return Err(6);
         }
-        if choices != places(self.transform) {
+        if choices != places(self.transform) * self.bands(band_height)? {
             return Err(7);
         }
         Ok(())
+    }
+
+    /// Refusal 17, or the number of bands, "the last band possibly shorter"; one where there is no band height.
+    fn bands(&self, band_height: Option<u32>) -> Result<usize, RefusalNumber> {
+        match band_height {
+            None => Ok(1),
+            Some(rows) if (1..=self.height).contains(&rows) => Ok(self.height.div_ceil(rows) as usize),
+            Some(_) => Err(17),
+        }
     }
 
     /// The part of refusal 7 on the choices themselves.
@@ -128,13 +140,13 @@ impl Settings {
         }
     }
 
-    fn lift(&self, steps: Steps, form: Form, filters: &[u8], planes: Planes) -> Planes {
-        steps(form, self.transform, self.width as usize, self.height as usize, filters, planes)
+    fn lift(&self, steps: Steps, form: Form, band_height: Option<u32>, filters: &[u8], planes: Planes) -> Planes {
+        steps(form, self.transform, self.width as usize, self.height as usize, band_height, filters, planes)
     }
 
     /// The sum of the estimates of the three finished planes.
     fn estimate(&self, filters: &[u8], picture: &Planes) -> Estimated {
-        let finished = self.lift(run, Form::Plain, filters, picture.clone());
+        let finished = self.lift(run, Form::Plain, None, filters, picture.clone());
         let each = finished.each_ref().map(|plane| plane_estimate(plane, self.width as usize));
         Estimated { estimate: each.iter().map(|(estimate, _)| estimate).sum(), samples: each[0].1 }
     }
@@ -149,21 +161,21 @@ fn lent(planes: Planes) -> [Vec<i32>; 3] {
     planes.map(|plane: Plane| plane.into_iter().map(number).collect())
 }
 
-/// The planes that the picture goes to. Refusals 2, 5, 6, 7, 8, 11.
-pub fn forward(settings: Settings, choices: &[u8], planes: [&[i32]; 3]) -> Answer {
-    settings.test(choices.len())?;
+/// The planes that the picture goes to. Refusals 2, 5, 6, 17, 7, 8, 11.
+pub fn forward(settings: Settings, band_height: Option<u32>, choices: &[u8], planes: [&[i32]; 3]) -> Answer {
+    settings.test(band_height, choices.len())?;
     settings.test_choices(choices)?;
     settings.test_planes(&planes)?;
     let picture = settings.picture(planes)?;
-    Ok(lent(settings.lift(run, Form::Plain, choices, picture)))
+    Ok(lent(settings.lift(run, Form::Plain, band_height, choices, picture)))
 }
 
-/// The picture that goes to the planes. Refusals 2, 5, 6, 7, 8, 12.
-pub fn inverse(settings: Settings, choices: &[u8], planes: [&[i32]; 3]) -> Answer {
-    settings.test(choices.len())?;
+/// The picture that goes to the planes. Refusals 2, 5, 6, 17, 7, 8, 12.
+pub fn inverse(settings: Settings, band_height: Option<u32>, choices: &[u8], planes: [&[i32]; 3]) -> Answer {
+    settings.test(band_height, choices.len())?;
     settings.test_choices(choices)?;
     settings.test_planes(&planes)?;
-    let before = settings.lift(undo, Form::Plain, choices, whole(planes));
+    let before = settings.lift(undo, Form::Plain, band_height, choices, whole(planes));
     if settings.is_picture(&before) {
         Ok(lent(before))
     } else {
@@ -171,25 +183,31 @@ pub fn inverse(settings: Settings, choices: &[u8], planes: [&[i32]; 3]) -> Answe
     }
 }
 
-/// The planes that the picture goes to in the wrapped form. Refusals 2, 5, 16, 6, 7, 8, 11.
-pub fn forward_wrapped(settings: Settings, choices: &[u8], planes: [&[i32]; 3]) -> Answer {
-    in_wrapped_form(run, settings, choices, planes)
+/// The planes that the picture goes to in the wrapped form. Refusals 2, 5, 16, 6, 17, 7, 8, 11.
+pub fn forward_wrapped(settings: Settings, band_height: Option<u32>, choices: &[u8], planes: [&[i32]; 3]) -> Answer {
+    in_wrapped_form(run, settings, band_height, choices, planes)
 }
 
-/// The picture that goes to the planes in the wrapped form. Refusals 2, 5, 16, 6, 7, 8, 11.
-pub fn inverse_wrapped(settings: Settings, choices: &[u8], planes: [&[i32]; 3]) -> Answer {
-    in_wrapped_form(undo, settings, choices, planes)
+/// The picture that goes to the planes in the wrapped form. Refusals 2, 5, 16, 6, 17, 7, 8, 11.
+pub fn inverse_wrapped(settings: Settings, band_height: Option<u32>, choices: &[u8], planes: [&[i32]; 3]) -> Answer {
+    in_wrapped_form(undo, settings, band_height, choices, planes)
 }
 
 /// "16 if the three depths differ, after 5; 11 for a sample outside 0 to M, either way."
-fn in_wrapped_form(steps: Steps, settings: Settings, choices: &[u8], planes: [&[i32]; 3]) -> Answer {
+fn in_wrapped_form(
+    steps: Steps,
+    settings: Settings,
+    band_height: Option<u32>,
+    choices: &[u8],
+    planes: [&[i32]; 3],
+) -> Answer {
     settings.test_size_and_depths()?;
     let form = settings.wrapped()?;
-    settings.test_transform(choices.len())?;
+    settings.test_transform(band_height, choices.len())?;
     settings.test_choices(choices)?;
     settings.test_planes(&planes)?;
     let before = settings.picture(planes)?;
-    Ok(lent(settings.lift(steps, form, choices, before)))
+    Ok(lent(settings.lift(steps, form, band_height, choices, before)))
 }
 
 /// The estimate under the choices. Refusals 2, 5, 6, 7, 8, 9, 11.
@@ -199,7 +217,7 @@ pub fn estimate(
     planes: [&[i32]; 3],
     scratch: Scratch,
 ) -> Result<Estimated, RefusalNumber> {
-    settings.test(choices.len())?;
+    settings.test(None, choices.len())?;
     settings.test_choices(choices)?;
     settings.test_planes(&planes)?;
     settings.test_scratch(&scratch)?;
@@ -216,7 +234,7 @@ pub fn search(
     planes: [&[i32]; 3],
     scratch: Scratch,
 ) -> Result<Found, RefusalNumber> {
-    settings.test(choices)?;
+    settings.test(None, choices)?;
     settings.test_planes(&planes)?;
     settings.test_scratch(&scratch)?;
     if !(1..=4).contains(&rounds) {

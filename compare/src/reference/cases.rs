@@ -6,7 +6,12 @@ const PIXEL: [i64; 3] = [10, 200, 60];
 const DEPTH_8: Settings = Settings { width: 1, height: 1, depths: [8; 3], transform: 0 };
 
 fn pixel(transform: u32, filters: &[u8]) -> [i64; 3] {
-    run(Form::Plain, transform, 1, 1, filters, PIXEL.map(|sample| vec![sample])).map(|plane| plane[0])
+    run(Form::Plain, transform, 1, 1, None, filters, PIXEL.map(|sample| vec![sample])).map(|plane| plane[0])
+}
+
+/// The whole plane, filtered.
+fn filtered(plane: &[i64], width: usize, height: usize, filter: u8) -> Plane {
+    (0..width * height).map(|i| filtered_at(plane, width, height, filter, i % width, i / width)).collect()
 }
 
 #[test]
@@ -33,7 +38,7 @@ fn null_steps() {
 
 #[test]
 fn two_pixels() {
-    let planes = run(Form::Plain, 2, 2, 1, &[1, 1], [vec![10, 20], vec![100, 101], vec![7, 9]]);
+    let planes = run(Form::Plain, 2, 2, 1, None, &[1, 1], [vec![10, 20], vec![100, 101], vec![7, 9]]);
     assert_eq!(planes, [vec![10, 20], vec![-85, -86], vec![94, 92]]);
 }
 
@@ -61,7 +66,7 @@ fn largest_window() {
     for (number, range) in planes.into_iter().zip(ranges([16; 3], 1)) {
         assert!(range.contains(number));
     }
-    let [_, _, plane] = undo(Form::Plain, 1, 3, 3, &[0; 4], planes.map(|number| vec![number; 9]));
+    let [_, _, plane] = undo(Form::Plain, 1, 3, 3, None, &[0; 4], planes.map(|number| vec![number; 9]));
     assert_eq!(plane, [229_372; 9]);
     let (sum, weights) = window(&plane, 3, 3, 11, 1, 1);
     assert_eq!(2 * sum + weights, 473_424_840);
@@ -122,7 +127,7 @@ fn one_colour() {
 fn planes_that_no_picture_reaches() {
     let back = |transform, filters: &[u8], planes: [i32; 3]| {
         let planes = planes.map(|sample| [sample]);
-        inverse(Settings { transform, ..DEPTH_8 }, filters, planes.each_ref().map(|plane| plane.as_slice()))
+        inverse(Settings { transform, ..DEPTH_8 }, None, filters, planes.each_ref().map(|plane| plane.as_slice()))
     };
     assert_eq!(back(2, &[0; 2], [0, 0, 255]), Err(12));
     assert_eq!(back(0, &[0; 4], [255, -128, 255]), Err(12));
@@ -135,7 +140,7 @@ fn refusals() {
     let call = |width, height, depth, sample: i32| {
         let plane = vec![sample; width as usize * height as usize];
         let settings = Settings { width, height, depths: [depth; 3], transform: 2 };
-        forward(settings, &[0; 2], [&plane, &plane, &plane]).err()
+        forward(settings, None, &[0; 2], [&plane, &plane, &plane]).err()
     };
     assert_eq!(call(8192, 1, 8, 0), None);
     assert_eq!(call(8193, 1, 8, 0), Some(2));

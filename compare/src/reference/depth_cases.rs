@@ -90,12 +90,10 @@ fn counters_needed() {
 }
 
 /// One pixel forward, or back, under RDgDb with filters 0.
-type Call = fn(Settings, &[u8], [&[i32]; 3]) -> Answer;
-
 fn pixel(call: Call, depths: [u32; 3], samples: [i32; 3]) -> Result<[i32; 3], RefusalNumber> {
     let settings = Settings { width: 1, height: 1, depths, transform: 2 };
     let planes = samples.map(|sample| [sample]);
-    let after = call(settings, &[0; 2], planes.each_ref().map(|plane| plane.as_slice()))?;
+    let after = call(settings, None, &[0; 2], planes.each_ref().map(|plane| plane.as_slice()))?;
     Ok(after.map(|plane| plane[0]))
 }
 
@@ -145,11 +143,11 @@ pub fn pictures(depths: [u32; 3], samples: u32) -> impl Iterator<Item = Planes> 
 fn come_back(depths: [u32; 3], samples: u32, transform: u32, filters: &[u8]) {
     let width = samples as usize;
     for picture in pictures(depths, samples) {
-        let finished = run(Form::Plain, transform, width, 1, filters, picture.clone());
+        let finished = run(Form::Plain, transform, width, 1, None, filters, picture.clone());
         for (plane, range) in finished.iter().zip(ranges(depths, transform)) {
             assert!(plane.iter().all(|&number| range.contains(number)), "depths {depths:?} filters {filters:?}");
         }
-        assert_eq!(undo(Form::Plain, transform, width, 1, filters, finished), picture);
+        assert_eq!(undo(Form::Plain, transform, width, 1, None, filters, finished), picture);
     }
 }
 

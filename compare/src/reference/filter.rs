@@ -1,7 +1,5 @@
 //! The 13 filters.
 
-use super::Plane;
-
 /// S, the weighted sum of the window around column `x`, row `y`, and W, the sum of the weights present there, for
 /// filters 1 to 11.
 pub fn window(plane: &[i64], width: usize, height: usize, filter: u8, x: usize, y: usize) -> (i64, i64) {
@@ -29,15 +27,4 @@ pub fn filtered_at(plane: &[i64], width: usize, height: usize, filter: u8, x: us
         12 => 0,
         _ => panic!("no filter {filter}"),
     }
-}
-
-/// The whole plane, filtered.
-pub fn filtered(plane: &[i64], width: usize, height: usize, filter: u8) -> Plane {
-    let mut out = Vec::with_capacity(plane.len());
-    for y in 0..height {
-        for x in 0..width {
-            out.push(filtered_at(plane, width, height, filter, x, y));
-        }
-    }
-    out
 }

@@ -13,6 +13,8 @@ mod report;
 mod transform;
 
 #[cfg(test)]
+mod band_cases;
+#[cfg(test)]
 mod cases;
 #[cfg(test)]
 mod depth_cases;
@@ -20,9 +22,9 @@ mod depth_cases;
 mod wrapped_cases;
 
 pub use calls::{estimate, forward, forward_wrapped, inverse, inverse_wrapped, search};
-pub use calls::{Answer, Estimated, Found, Scratch, Settings};
+pub use calls::{Answer, Call, Estimated, Found, Scratch, Settings};
 pub use entropy::{counted_indices, logarithm, med, plane_estimate, residual};
-pub use filter::{filtered, filtered_at, window};
+pub use filter::{filtered_at, window};
 pub use pixmap::{pixmap_header, pixmap_planes, Header};
 pub use ranges::{all_depths, are_depths, counters, greatest, ranges, Interval};
 pub use report::{report, NAMES};
@@ -32,5 +34,5 @@ pub use transform::{places, run, undo, Form, TRANSFORMS};
 pub type Plane = Vec<i64>;
 pub type Planes = [Plane; 3];
 
-/// The number that tells why a call refuses, 1 to 12 or 16.
+/// The number that tells why a call refuses, 1 to 12, 16 or 17.
 pub type RefusalNumber = u32;

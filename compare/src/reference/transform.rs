@@ -1,6 +1,6 @@
 //! The four transforms, there and back.
 
-use super::{filtered, Plane, Planes};
+use super::{filtered_at, Plane, Planes};
 
 /// Transforms are numbered 0 to 3: RCT, YCoCg-R, RDgDb, LDgEb.
 pub const TRANSFORMS: u32 = 4;
@@ -32,30 +32,39 @@ impl Form {
     }
 }
 
-/// The form, one filter for each place, from place 1 on, and the size of the planes.
+/// What every step is told.
 struct Lifting<'a> {
     form: Form,
+    transform: u32,
     width: usize,
     height: usize,
+    /// How many rows a band has; none where all rows are one band.
+    band_height: Option<u32>,
+    /// One filter for each place, set after set from the top band.
     filters: &'a [u8],
 }
 
 impl Lifting<'_> {
-    fn filter(&self, place: usize) -> u8 {
-        self.filters[place - 1]
+    /// The filter of a place, from place 1 on: "A row uses its band's filters".
+    fn filter(&self, row: usize, place: usize) -> u8 {
+        let band = self.band_height.map_or(0, |rows| row / rows as usize);
+        self.filters[band * places(self.transform) + place - 1]
     }
 
-    /// A step: each sample of `plane` becomes the result for it and the sum of the filtered values of `terms`, which are
-    /// planes with their places, as the form keeps it. "A step whose places are all null leaves its plane unchanged, both
-    /// ways."
+    /// A step: each sample of `plane` becomes the result for it and the sum of the filtered values of `terms`, which
+    /// are planes with their places, as the form keeps it. Windows are those of the whole picture. "A step whose places
+    /// are all null leaves its plane unchanged, both ways", and "is skipped row by row".
     fn step(&self, plane: &mut Plane, terms: &[(&Plane, usize)], result: impl Fn(i64, i64) -> i64) {
-        if terms.iter().all(|&(_, place)| self.filter(place) == NULL) {
-            return;
-        }
-        let filtered = |&(term, place): &(&Plane, usize)| filtered(term, self.width, self.height, self.filter(place));
-        let terms: Vec<Plane> = terms.iter().map(filtered).collect();
-        for (i, sample) in plane.iter_mut().enumerate() {
-            *sample = self.form.kept(result(*sample, terms.iter().map(|term| term[i]).sum()));
+        for (y, row) in plane.chunks_mut(self.width).enumerate() {
+            if terms.iter().all(|&(_, place)| self.filter(y, place) == NULL) {
+                continue;
+            }
+            for (x, sample) in row.iter_mut().enumerate() {
+                let filtered = |&(term, place): &(&Plane, usize)| {
+                    filtered_at(term, self.width, self.height, self.filter(y, place), x, y)
+                };
+                *sample = self.form.kept(result(*sample, terms.iter().map(filtered).sum()));
+            }
         }
     }
 }
@@ -68,10 +77,19 @@ fn quarter(n: i64) -> i64 {
     n.div_euclid(4)
 }
 
-/// Every step of the transform in order; `filters` has one filter for each place.
-pub fn run(form: Form, transform: u32, width: usize, height: usize, filters: &[u8], planes: Planes) -> Planes {
+/// Every step of the transform in order; `filters` has one filter for each place, and if there is a band height as many
+/// for each band of so many rows, from the top.
+pub fn run(
+    form: Form,
+    transform: u32,
+    width: usize,
+    height: usize,
+    band_height: Option<u32>,
+    filters: &[u8],
+    planes: Planes,
+) -> Planes {
     let [mut c1, mut c2, mut c3] = planes;
-    let lifting = Lifting { form, width, height, filters };
+    let lifting = Lifting { form, transform, width, height, band_height, filters };
     match transform {
         0 => {
             lifting.step(&mut c1, &[(&c2, 1)], |c, d| c - d);
@@ -99,9 +117,17 @@ pub fn run(form: Form, transform: u32, width: usize, height: usize, filters: &[u
 }
 
 /// The steps undone, the last one first, with the same filters.
-pub fn undo(form: Form, transform: u32, width: usize, height: usize, filters: &[u8], planes: Planes) -> Planes {
+pub fn undo(
+    form: Form,
+    transform: u32,
+    width: usize,
+    height: usize,
+    band_height: Option<u32>,
+    filters: &[u8],
+    planes: Planes,
+) -> Planes {
     let [mut c1, mut c2, mut c3] = planes;
-    let lifting = Lifting { form, width, height, filters };
+    let lifting = Lifting { form, transform, width, height, band_height, filters };
     match transform {
         0 => {
             lifting.step(&mut c2, &[(&c1, 3), (&c3, 4)], |c, d| c - quarter(d));

@@ -8,7 +8,7 @@ const WRAPPED: Form = Form::Wrapped(8);
 const PIXEL: [i64; 3] = [10, 200, 60];
 
 fn pixel(transform: u32, filters: &[u8], samples: [i64; 3]) -> [i64; 3] {
-    run(WRAPPED, transform, 1, 1, filters, samples.map(|sample| vec![sample])).map(|plane| plane[0])
+    run(WRAPPED, transform, 1, 1, None, filters, samples.map(|sample| vec![sample])).map(|plane| plane[0])
 }
 
 #[test]
@@ -35,7 +35,7 @@ fn sum_divided_before_it_is_reduced() {
 /// C1: 10 - 128/2 = -54, 202. C3: 5 - 202 = -197, 59.
 #[test]
 fn mean_of_kept_numbers() {
-    let planes = run(WRAPPED, 3, 2, 1, &[0, 1, 0], [vec![10, 10], vec![11, 9], vec![5, 5]]);
+    let planes = run(WRAPPED, 3, 2, 1, None, &[0, 1, 0], [vec![10, 10], vec![11, 9], vec![5, 5]]);
     assert_eq!(planes, [vec![202, 202], vec![255, 1], vec![59, 59]]);
 }
 
@@ -59,11 +59,11 @@ fn reverse(depth: u32, samples: u32, transform: u32, filters: &[u8]) {
     let (form, width) = (Form::Wrapped(depth), samples as usize);
     let mut reached = HashSet::new();
     for planes in pictures([depth; 3], samples) {
-        let finished = run(form, transform, width, 1, filters, planes.clone());
+        let finished = run(form, transform, width, 1, None, filters, planes.clone());
         assert!(finished.iter().flatten().all(|number| (0..1 << depth).contains(number)), "depth {depth} {filters:?}");
-        assert_eq!(undo(form, transform, width, 1, filters, finished.clone()), planes);
-        let before = undo(form, transform, width, 1, filters, planes.clone());
-        assert_eq!(run(form, transform, width, 1, filters, before), planes);
+        assert_eq!(undo(form, transform, width, 1, None, filters, finished.clone()), planes);
+        let before = undo(form, transform, width, 1, None, filters, planes.clone());
+        assert_eq!(run(form, transform, width, 1, None, filters, before), planes);
         assert!(reached.insert(finished), "depth {depth} filters {filters:?}");
     }
     assert_eq!(reached.len(), 1 << (3 * depth * samples));
@@ -89,7 +89,7 @@ fn two_pixels_reverse() {
 fn call(settings: Settings, choices: &[u8], samples: [i32; 3]) -> [Option<RefusalNumber>; 2] {
     let planes = samples.map(|sample| [sample]);
     let lent = planes.each_ref().map(|plane| plane.as_slice());
-    [forward_wrapped(settings, choices, lent).err(), inverse_wrapped(settings, choices, lent).err()]
+    [forward_wrapped(settings, None, choices, lent).err(), inverse_wrapped(settings, None, choices, lent).err()]
 }
 
 /// Faults of all kinds, each repaired before the next: the tests come in the order 2, 5, 16, 6, 7, 8, 11.
@@ -122,6 +122,6 @@ fn refusals_in_order() {
 fn planes_that_only_the_wrapped_form_reaches() {
     let settings = Settings { width: 1, height: 1, depths: [8; 3], transform: 2 };
     let planes: [&[i32]; 3] = [&[0], &[0], &[255]];
-    assert_eq!(inverse(settings, &[0; 2], planes), Err(12));
-    assert_eq!(inverse_wrapped(settings, &[0; 2], planes), Ok([vec![0], vec![0], vec![1]]));
+    assert_eq!(inverse(settings, None, &[0; 2], planes), Err(12));
+    assert_eq!(inverse_wrapped(settings, None, &[0; 2], planes), Ok([vec![0], vec![0], vec![1]]));
 }

@@ -1,7 +1,7 @@
 //! Lent memory that ends where memory ends, or begins where it begins: one element read or written
 //! beyond it stops the program.
 
-use crate::library::{self, Scratch, Settings};
+use crate::library::{self, Refusal, Scratch, Settings};
 use crate::random::{self, each_round, Random};
 use compare::reference;
 use std::ffi::c_void;
@@ -60,6 +60,9 @@ fn planes(content: &[Vec<i32>; 3], at_end: bool) -> [Edge<i32>; 3] {
     content.each_ref().map(|plane| Edge::new(plane, at_end))
 }
 
+/// A call with bands.
+type Banded = fn(Settings, u32, &[u8], [&mut [i32]; 3]) -> Result<(), Refusal>;
+
 fn calls(random: &mut Random, at_end: bool, origin: &str) {
     let case = random::case(random, origin);
     let reference::Settings { width, height, depths, transform } = case.settings;
@@ -71,6 +74,16 @@ fn calls(random: &mut Random, at_end: bool, origin: &str) {
     let one_depth = Settings { depths: case.wrapped().settings.depths, ..settings };
     library::forward_wrapped(one_depth, choices.slice(), picture.each_mut().map(Edge::slice)).expect(origin);
     library::inverse_wrapped(one_depth, choices.slice(), picture.each_mut().map(Edge::slice)).expect(origin);
+    let banded = random::banded(random, &case);
+    let (rows, mut sets) = (banded.band_height.unwrap(), Edge::new(&banded.choices, at_end));
+    for (settings, call) in [
+        (settings, library::forward_banded as Banded),
+        (settings, library::inverse_banded),
+        (one_depth, library::forward_wrapped_banded),
+        (one_depth, library::inverse_wrapped_banded),
+    ] {
+        call(settings, rows, sets.slice(), picture.each_mut().map(Edge::slice)).expect(origin);
+    }
     for (plane, entry) in picture.iter_mut().zip(&case.planes) {
         assert_eq!(plane.slice(), entry, "{case}");
     }

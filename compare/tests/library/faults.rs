@@ -1,7 +1,7 @@
 //! Everything that the calls on planes refuse.
 
 use crate::same::Case;
-use compare::reference::{counters, greatest, Settings};
+use compare::reference::{counters, greatest, places, Settings};
 
 /// A fault and the refusal that it causes.
 pub struct Fault {
@@ -20,8 +20,19 @@ pub enum Call {
     Search,
 }
 
-pub const CALLS: [Call; 6] =
-    [Call::Forward, Call::Inverse, Call::ForwardWrapped, Call::InverseWrapped, Call::Estimate, Call::Search];
+/// Every call, and whether it is the one with bands.
+pub const CALLS: [(Call, bool); 10] = [
+    (Call::Forward, false),
+    (Call::Inverse, false),
+    (Call::ForwardWrapped, false),
+    (Call::InverseWrapped, false),
+    (Call::Estimate, false),
+    (Call::Search, false),
+    (Call::Forward, true),
+    (Call::Inverse, true),
+    (Call::ForwardWrapped, true),
+    (Call::InverseWrapped, true),
+];
 
 impl Call {
     pub fn is_wrapped(self) -> bool {
@@ -77,6 +88,22 @@ impl Faults {
         }
         for transform in [4, 5, 256, 1 << 16, u32::MAX] {
             self.add(6, move |case| case.settings.transform = transform);
+        }
+    }
+
+    /// 17, and 7 for as many choices as other bands need, and for one, a whole set or many too few or too many.
+    fn add_bands(&mut self, case: &Case, rows: u32) {
+        let (height, set) = (case.settings.height, places(case.settings.transform));
+        for refused in [0, height + 1, height + 2, 256 + rows, 65_536 + rows, 1 << 31, u32::MAX] {
+            self.add(17, move |case| case.band_height = Some(refused));
+        }
+        for other in (1..=height).filter(|&other| height.div_ceil(other) != height.div_ceil(rows)) {
+            self.add(7, move |case| case.band_height = Some(other));
+        }
+        self.add(7, move |case| case.choices.truncate(case.choices.len().saturating_sub(1)));
+        self.add(7, move |case| case.choices.truncate(case.choices.len().saturating_sub(set)));
+        for more in [set, 256, 65_536] {
+            self.add(7, move |case| case.choices.resize(case.choices.len() + more, 0));
         }
     }
 
@@ -137,6 +164,9 @@ pub fn faults(call: Call, case: &Case) -> Vec<Fault> {
     let Settings { depths, transform, .. } = case.settings;
     let mut faults = Faults::default();
     faults.add_settings(call, depths[0]);
+    if let Some(rows) = case.band_height {
+        faults.add_bands(case, rows);
+    }
     faults.add_lengths(call, case.choices.len());
     if call.has_scratch() {
         faults.add_scratch(call, case.samples(), counters(depths, transform));

@@ -49,22 +49,23 @@ fn ends_of_the_number_range() {
     });
 }
 
-/// Planes of numbers within their ranges, at their ends, one beyond, and far outside.
+/// The case with planes of numbers within their ranges, at their ends, one beyond, or far outside.
+pub fn by_range(random: &mut Random, case: &Case) -> Case {
+    let beyond = random.one_of(&[0, 0, 1, 1000, 1 << 20]);
+    let at_ends = random.one_in(3);
+    let planes = ranges(case.settings.depths, case.settings.transform).map(|range| {
+        let (low, high) = (range.low - beyond, range.high + beyond);
+        let mut number = || if at_ends { random.one_of(&[low, high]) } else { random.between(low, high) };
+        (0..case.samples()).map(|_| number() as i32).collect()
+    });
+    case.with(planes)
+}
+
 #[test]
 fn planes_by_range() {
-    each_round("planes_by_range", 6000, |random, origin| {
-        let mut case = random::case(random, origin);
-        let beyond = random.one_of(&[0, 0, 1, 1000, 1 << 20]);
-        let at_ends = random.one_in(3);
-        let Settings { depths, transform, .. } = case.settings;
-        for (plane, range) in case.planes.iter_mut().zip(ranges(depths, transform)) {
-            let (low, high) = (range.low - beyond, range.high + beyond);
-            for sample in plane {
-                let number = if at_ends { random.one_of(&[low, high]) } else { random.between(low, high) };
-                *sample = number as i32;
-            }
-        }
-        case.inverse();
+    each_round("inverses::planes_by_range", 6000, |random, origin| {
+        let case = random::case(random, origin);
+        by_range(random, &case).inverse();
     });
 }
 
@@ -141,7 +142,7 @@ fn sums_fit(case: &Case) {
     let Settings { width, height, transform, .. } = case.settings;
     let (width, height) = (width as usize, height as usize);
     let lent = case.planes.each_ref().map(|plane| plane.iter().map(|&number| i64::from(number)).collect());
-    let undone = undo(Form::Plain, transform, width, height, &case.choices, lent.clone());
+    let undone = undo(Form::Plain, transform, width, height, case.band_height, &case.choices, lent.clone());
     for plane in lent.iter().chain(&undone) {
         let (sum, weights) = window(plane, width, height, 11, 1, 1);
         assert!(i32::try_from(2 * sum + weights).is_ok(), "{case}");

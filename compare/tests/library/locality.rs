@@ -74,12 +74,12 @@ fn apart(case: &Case, one: usize, other: usize) -> usize {
     (one / width).abs_diff(other / width).max((one % width).abs_diff(other % width))
 }
 
-/// Calls `test` with cases for the way: all depths, all transforms, sizes and choices of many kinds. `test` answers how
-/// many numbers it compared; for each transform there must be some.
+/// Calls `test` with cases for the way: all depths, all transforms, sizes and choices of many kinds, half of them with
+/// bands. `test` answers how many numbers it compared; for each transform, with bands and without, there must be some.
 fn each_case(name: &str, rounds: u64, way: &Way, mut test: impl FnMut(&mut Random, &Case) -> usize) {
     const SIZES: [(u32, u32); 11] =
         [(1, 1), (1, 6), (1, 20), (5, 1), (19, 1), (2, 2), (3, 3), (2, 11), (7, 4), (10, 9), (20, 17)];
-    let mut compared = [0; 4];
+    let mut compared = [[0; 4]; 2];
     each_round(name, rounds, |random, origin| {
         for depths in random::many_depths(random) {
             for transform in 0..TRANSFORMS {
@@ -91,12 +91,14 @@ fn each_case(name: &str, rounds: u64, way: &Way, mut test: impl FnMut(&mut Rando
                     1 => case.set_nulls(random.below(16) as u32, || random.below(12) as u8),
                     _ => {}
                 }
+                let banded = random.one_in(2);
+                let case = if banded { random::banded(random, &case) } else { case };
                 let case = if way.wrapped { case.wrapped() } else { case };
-                compared[transform as usize] += test(random, &case);
+                compared[usize::from(banded)][transform as usize] += test(random, &case);
             }
         }
     });
-    assert!(!compared.contains(&0), "{name} compared {compared:?}");
+    assert!(!compared.concat().contains(&0), "{name} compared {compared:?}");
 }
 
 /// The case with other numbers at the pixels told, each made of its plane's M and the number there.
@@ -132,7 +134,7 @@ fn far_from_a_spot<'a>(random: &mut Random, way: &Way, case: &'a Case) -> impl F
 
 /// Cases that differ in all samples but for those near a spot.
 fn agree_near_a_spot(name: &str, way: &Way) {
-    each_case(name, 20, way, |random, case| {
+    each_case(name, 40, way, |random, case| {
         let far = far_from_a_spot(random, way, case);
         way.agree(case, &other_samples(random, case, far), 0)
     });
@@ -170,7 +172,7 @@ fn each_picture(name: &str, rounds: u64, mut test: impl FnMut(&mut Random, &Case
 /// Two pictures that differ at some pixels agree at each spot near which their finished planes agree.
 #[test]
 fn back_to_two_pictures() {
-    each_picture("back_to_two_pictures", 12, |random, picture| {
+    each_picture("back_to_two_pictures", 24, |random, picture| {
         let chances = random.one_of(&[3, 30]);
         let nudged = |greatest: i64, sample: i64| match random.below(chances) {
             0 => (sample + random.one_of(&[-1, 1])).clamp(0, greatest),
@@ -187,7 +189,7 @@ fn back_to_two_pictures() {
 /// Finished planes with all numbers changed a little but for those near a spot, where the inverse accepts them.
 #[test]
 fn back_from_planes_that_agree_near_a_spot() {
-    each_picture("back_from_planes_that_agree_near_a_spot", 12, |random, picture| {
+    each_picture("back_from_planes_that_agree_near_a_spot", 24, |random, picture| {
         let (case, most) = (finished(picture), 1 << random.below(12));
         let far = far_from_a_spot(random, &INVERSE, &case);
         let other = changed(&case, far, |_, number| number + random.one_of(&[-1, 1]) * random.between(1, most));
@@ -198,7 +200,7 @@ fn back_from_planes_that_agree_near_a_spot() {
 /// One damaged number: where the inverse still accepts the planes only samples near the damage differ.
 #[test]
 fn one_damaged_number() {
-    each_picture("one_damaged_number", 40, |random, picture| {
+    each_picture("one_damaged_number", 80, |random, picture| {
         let (case, by) = (finished(picture), 1 << random.below(14));
         let mut other = case.clone();
         *sample(random, &mut other) += random.one_of(&[-by, by]);
@@ -214,8 +216,9 @@ fn stretch(random: &mut Random, side: u32, first: bool, last: bool) -> Range<usi
     start..end
 }
 
-/// Rectangles cut out of the case, each a case of its own with the same choices: one for each set of borders to touch,
-/// and a single pixel. Where the call accepts them they must agree with the whole case away from the cuts.
+/// Rectangles cut out of the case, each a case of its own with the same choices for its rows: one for each set of
+/// borders to touch, and a single pixel. Where the call accepts them they must agree with the whole case away from the
+/// cuts.
 fn cut_out(random: &mut Random, way: &Way, case: &Case) -> usize {
     let Settings { width, height, .. } = case.settings;
     let mut rectangles = vec![[width, height].map(|side| random.below(side as usize)).map(|at| at..at + 1)];
@@ -227,7 +230,9 @@ fn cut_out(random: &mut Random, way: &Way, case: &Case) -> usize {
         let row = |plane: &[i32], row: usize| plane[row * width as usize..][columns.clone()].to_vec();
         let cut = case.planes.each_ref().map(|plane| rows.clone().flat_map(|number| row(plane, number)).collect());
         let settings = Settings { width: columns.len() as u32, height: rows.len() as u32, ..case.settings };
-        way.agree(case, &Case { settings, ..case.with(cut) }, rows.start * width as usize + columns.start)
+        let (band_height, choices) = case.choices_of(rows.clone());
+        let part = Case { settings, band_height, choices, ..case.with(cut) };
+        way.agree(case, &part, rows.start * width as usize + columns.start)
     };
     rectangles.into_iter().map(agrees).sum()
 }
@@ -235,13 +240,13 @@ fn cut_out(random: &mut Random, way: &Way, case: &Case) -> usize {
 #[test]
 fn cut_out_of_a_picture() {
     for way in &OPEN {
-        each_case("cut_out_of_a_picture", 4, way, |random, case| cut_out(random, way, case));
+        each_case("cut_out_of_a_picture", 8, way, |random, case| cut_out(random, way, case));
     }
 }
 
 #[test]
 fn cut_out_of_finished_planes() {
-    each_picture("cut_out_of_finished_planes", 6, |random, picture| cut_out(random, &INVERSE, &finished(picture)));
+    each_picture("cut_out_of_finished_planes", 12, |random, picture| cut_out(random, &INVERSE, &finished(picture)));
 }
 
 /// Eleven pixels in a row or in a column, with filter 1 at all places: if one pixel is raised as far away as a plane

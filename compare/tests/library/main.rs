@@ -8,6 +8,7 @@
 #[path = "../../src/library.rs"]
 mod library;
 
+mod bands;
 mod depths;
 mod edges;
 mod estimates;

@@ -166,6 +166,7 @@ pub fn case_of(random: &mut Random, settings: Settings, origin: &str) -> Case {
 pub fn case_without_scratch(random: &mut Random, settings: Settings, origin: &str) -> Case {
     Case {
         settings,
+        band_height: None,
         rounds: 0,
         choices: choices(random, places(settings.transform)),
         planes: picture(random, settings),
@@ -174,6 +175,39 @@ pub fn case_without_scratch(random: &mut Random, settings: Settings, origin: &st
         alignment: random.below(1000),
         origin: origin.to_string(),
     }
+}
+
+/// The case with bands: short ones, of any height, or one or two for the whole picture.
+pub fn banded(random: &mut Random, case: &Case) -> Case {
+    let height = case.settings.height;
+    let any = 1 + random.below(height as usize) as u32;
+    let rows = random.one_of(&[1, 2, 3, any, any, height.div_ceil(2), height]);
+    banded_by(random, case, rows.min(height))
+}
+
+/// The case with bands of so many rows, and a set of choices for each: null at all places or at some, the set of the
+/// band above, or of any kind.
+pub fn banded_by(random: &mut Random, case: &Case, rows: u32) -> Case {
+    let places = places(case.settings.transform);
+    let mut sets: Vec<Vec<u8>> = Vec::new();
+    for _ in (0..case.settings.height).step_by(rows as usize) {
+        let above = sets.last().cloned();
+        let set = match random.below(6) {
+            0 => vec![12; places],
+            1 | 2 => (0..places).map(|_| if random.one_in(2) { 12 } else { random.below(12) as u8 }).collect(),
+            3 => above.unwrap_or_else(|| choices(random, places)),
+            _ => choices(random, places),
+        };
+        sets.push(set);
+    }
+    case.with_bands(rows, sets.concat())
+}
+
+/// A case with bands and no fault in it, for the calls that are lent planes and choices alone.
+pub fn banded_case(random: &mut Random, origin: &str) -> Case {
+    let settings = settings(random);
+    let case = case_without_scratch(random, settings, origin);
+    banded(random, &case)
 }
 
 /// A random sample of a case's planes.

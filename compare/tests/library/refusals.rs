@@ -3,15 +3,21 @@
 use crate::faults::{faults, Call, CALLS};
 use crate::library::c;
 use crate::random::{self, each_round, Random};
-use crate::same::Case;
+use crate::same::{Case, FORWARD, FORWARD_WRAPPED, INVERSE, INVERSE_WRAPPED};
 use crate::wrapped;
 use compare::reference::{greatest, places, Settings, TRANSFORMS};
 use std::ptr::null_mut;
 
-/// A case with no fault for the call. Two pixels, so that every length can be short and not empty.
-fn sound(random: &mut Random, call: Call, transform: u32, origin: &str) -> Case {
+/// A case with no fault for the call, which has bands or not. Two pixels or more, so that every length can be short and
+/// not empty.
+fn sound(random: &mut Random, (call, banded): (Call, bool), transform: u32, origin: &str) -> Case {
     let depths = random.one_of(&[[2; 3], [5; 3], [8; 3], [5, 6, 5], [8, 2, 5], [2, 9, 3]]);
-    let mut case = random::case_of(random, Settings { width: 2, height: 1, depths, transform }, origin);
+    let (width, height) = if banded { (1, 3) } else { (2, 1) };
+    let mut case = random::case_of(random, Settings { width, height, depths, transform }, origin);
+    if banded {
+        let rows = random.one_of(&[1, 2, 3]);
+        case = random::banded_by(random, &case, rows);
+    }
     if call == Call::Inverse {
         case.planes = case.forward().1;
     }
@@ -25,9 +31,9 @@ fn sound(random: &mut Random, call: Call, transform: u32, origin: &str) -> Case 
 #[test]
 fn one_fault_and_two() {
     each_round("one_fault_and_two", 1, |random, origin| {
-        for call in CALLS {
+        for (call, banded) in CALLS {
             for transform in 0..TRANSFORMS {
-                let case = sound(random, call, transform, origin);
+                let case = sound(random, (call, banded), transform, origin);
                 let faults = faults(call, &case);
                 for (i, first) in faults.iter().enumerate() {
                     let mut one = case.clone();
@@ -50,9 +56,9 @@ fn one_fault_and_two() {
 #[test]
 fn several_faults() {
     each_round("several_faults", 4000, |random, origin| {
-        let call = random.one_of(&CALLS);
+        let (call, banded) = random.one_of(&CALLS);
         let transform = random.below(TRANSFORMS as usize) as u32;
-        let mut case = sound(random, call, transform, origin);
+        let mut case = sound(random, (call, banded), transform, origin);
         let faults = faults(call, &case);
         for _ in 0..1 + random.below(4) {
             (random.one_of(&faults.iter().collect::<Vec<_>>()).make)(&mut case);
@@ -116,10 +122,15 @@ fn null_pointers() {
     let [t1, t2, t3] = trial.each_mut().map(|plane| plane.as_mut_ptr());
     // SAFETY: every pointer points to as many elements as said, and no two overlap.
     unsafe {
-        for call in [c::rulantip_forward, c::rulantip_inverse, c::rulantip_forward_wrapped, c::rulantip_inverse_wrapped] {
-            assert_eq!(call(0, 1, 6, 6, 6, 0, null_mut(), 0, none32, 0, none32, 0, none32, 0), 2);
-            assert_eq!(call(1, 1, 6, 6, 6, 0, null_mut(), 0, none32, 0, none32, 0, none32, 0), 7);
-            assert_eq!(call(1, 1, 6, 6, 6, 0, choice, 4, none32, 0, none32, 0, none32, 0), 8);
+        let settings = |width| Settings { width, height: 1, depths: [6; 3], transform: 0 };
+        for call in [FORWARD, INVERSE, FORWARD_WRAPPED, INVERSE_WRAPPED] {
+            for band_height in [None, Some(1)] {
+                let answer = |width, choices| call.answer(settings(width), band_height, choices, [(none32, 0); 3]);
+                assert_eq!(answer(0, (null_mut(), 0)), 2);
+                assert_eq!(answer(1, (null_mut(), 0)), 7);
+                assert_eq!(answer(1, (choice, 4)), 8);
+            }
+            assert_eq!(call.answer(settings(1), Some(2), (null_mut(), 0), [(none32, 0); 3]), 17);
         }
         let estimate = |choices, count, plane, samples, t1, t2, t3, trial| {
             let answer = c::rulantip_estimate(

@@ -1,14 +1,67 @@
 //! One call of the library, held to the reference: answer, lent memory and guard words.
 
 use crate::lent::{Lent, Word};
-use crate::library::c::{self, InPlace, RulantipEstimated, RulantipPixmap};
-use compare::reference::{self, Answer, Estimated, Scratch, Settings};
+use crate::library::c::{self, RulantipEstimated, RulantipPixmap};
+use compare::reference::{self, places, Answer, Estimated, Scratch, Settings};
 use std::fmt;
+use std::ops::Range;
+
+/// A call that changes planes in place: the function without bands, and the one with them.
+pub struct InPlace {
+    name: &'static str,
+    plain: c::InPlace,
+    banded: c::InPlaceBanded,
+}
+
+pub const FORWARD: InPlace =
+    InPlace { name: "rulantip_forward", plain: c::rulantip_forward, banded: c::rulantip_forward_banded };
+pub const INVERSE: InPlace =
+    InPlace { name: "rulantip_inverse", plain: c::rulantip_inverse, banded: c::rulantip_inverse_banded };
+pub const FORWARD_WRAPPED: InPlace = InPlace {
+    name: "rulantip_forward_wrapped",
+    plain: c::rulantip_forward_wrapped,
+    banded: c::rulantip_forward_wrapped_banded,
+};
+pub const INVERSE_WRAPPED: InPlace = InPlace {
+    name: "rulantip_inverse_wrapped",
+    plain: c::rulantip_inverse_wrapped,
+    banded: c::rulantip_inverse_wrapped_banded,
+};
+
+impl InPlace {
+    /// The function's answer, with bands where there is a band height.
+    ///
+    /// # Safety
+    /// Every pointer points to as many elements as said, and no two overlap.
+    pub unsafe fn answer(
+        &self,
+        settings: Settings,
+        band_height: Option<u32>,
+        (choices, count): (*const u8, usize),
+        [(c1, len1), (c2, len2), (c3, len3)]: [(*mut i32, usize); 3],
+    ) -> u32 {
+        let Settings { width, height, depths: [b1, b2, b3], transform } = settings;
+        let (plain, banded) = (self.plain, self.banded);
+        match band_height {
+            None => plain(width, height, b1, b2, b3, transform, choices, count, c1, len1, c2, len2, c3, len3),
+            Some(rows) => {
+                banded(width, height, b1, b2, b3, transform, rows, choices, count, c1, len1, c2, len2, c3, len3)
+            }
+        }
+    }
+
+    fn name(&self, band_height: Option<u32>) -> String {
+        let end = if band_height.is_some() { "_banded" } else { "" };
+        format!("{}{end}", self.name)
+    }
+}
 
 /// Everything that a call on planes is given.
 #[derive(Clone)]
 pub struct Case {
     pub settings: Settings,
+    /// Of the calls with bands; those without are made where there is none.
+    pub band_height: Option<u32>,
     pub rounds: u32,
     pub choices: Vec<u8>,
     pub planes: [Vec<i32>; 3],
@@ -25,7 +78,9 @@ impl fmt::Display for Case {
         let Settings { width, height, depths, transform } = self.settings;
         writeln!(f, "{}", self.origin)?;
         writeln!(f, "width {width} height {height} depths {depths:?} transform {transform} rounds {}", self.rounds)?;
-        writeln!(f, "choices {:?} alignment {}", self.choices, self.alignment)?;
+        writeln!(f, "band height {:?} alignment {}", self.band_height, self.alignment)?;
+        let first = &self.choices[..self.choices.len().min(100)];
+        writeln!(f, "{} choices: {first:?}", self.choices.len())?;
         writeln!(f, "trial planes {:?} counters {}", self.trial.each_ref().map(Vec::len), self.counters.len())?;
         for (plane, number) in self.planes.iter().zip(1..) {
             let first = &plane[..plane.len().min(100)];
@@ -45,11 +100,32 @@ impl Case {
         Case { planes, ..self.clone() }
     }
 
+    /// The case with bands of so many rows, and their sets of choices.
+    pub fn with_bands(&self, rows: u32, choices: Vec<u8>) -> Case {
+        Case { band_height: Some(rows), choices, ..self.clone() }
+    }
+
+    /// The set of choices of a row.
+    pub fn set_of(&self, row: usize) -> &[u8] {
+        let places = places(self.settings.transform);
+        let band = self.band_height.map_or(0, |rows| row / rows as usize);
+        &self.choices[band * places..][..places]
+    }
+
+    /// The choices of some rows: with bands, every row's own set in bands of one row.
+    pub fn choices_of(&self, rows: Range<usize>) -> (Option<u32>, Vec<u8>) {
+        match self.band_height {
+            None => (None, self.choices.clone()),
+            Some(_) => (Some(1), rows.flat_map(|row| self.set_of(row)).copied().collect()),
+        }
+    }
+
     /// The case for the wrapped forms: the deepest of its depths for all planes, and no scratch.
     pub fn wrapped(&self) -> Case {
         let deepest = self.settings.depths.into_iter().max().unwrap();
         Case {
             settings: Settings { depths: [deepest; 3], ..self.settings },
+            band_height: self.band_height,
             rounds: self.rounds,
             choices: self.choices.clone(),
             planes: self.planes.clone(),
@@ -85,47 +161,41 @@ impl Case {
 
     /// The forward call; its answer and the planes after it.
     pub fn forward(&self) -> (u32, [Vec<i32>; 3]) {
-        let expected = reference::forward(self.settings, &self.choices, self.slices());
-        self.in_place("rulantip_forward", c::rulantip_forward, expected)
+        self.in_place(&FORWARD, self.expected(reference::forward))
     }
 
     /// The inverse call; its answer and the planes after it.
     pub fn inverse(&self) -> (u32, [Vec<i32>; 3]) {
-        let expected = reference::inverse(self.settings, &self.choices, self.slices());
-        self.in_place("rulantip_inverse", c::rulantip_inverse, expected)
+        self.in_place(&INVERSE, self.expected(reference::inverse))
     }
 
     /// The inverse call where the expected answer is known already.
     pub fn inverse_as(&self, expected: Answer) {
-        self.in_place("rulantip_inverse", c::rulantip_inverse, expected);
+        self.in_place(&INVERSE, expected);
     }
 
     /// The forward call of the wrapped form; its answer and the planes after it.
     pub fn forward_wrapped(&self) -> (u32, [Vec<i32>; 3]) {
-        let expected = reference::forward_wrapped(self.settings, &self.choices, self.slices());
-        self.in_place("rulantip_forward_wrapped", c::rulantip_forward_wrapped, expected)
+        self.in_place(&FORWARD_WRAPPED, self.expected(reference::forward_wrapped))
     }
 
     /// The inverse call of the wrapped form; its answer and the planes after it.
     pub fn inverse_wrapped(&self) -> (u32, [Vec<i32>; 3]) {
-        let expected = reference::inverse_wrapped(self.settings, &self.choices, self.slices());
-        self.in_place("rulantip_inverse_wrapped", c::rulantip_inverse_wrapped, expected)
+        self.in_place(&INVERSE_WRAPPED, self.expected(reference::inverse_wrapped))
     }
 
-    fn in_place(&self, name: &str, call: InPlace, expected: Answer) -> (u32, [Vec<i32>; 3]) {
+    fn expected(&self, call: reference::Call) -> Answer {
+        call(self.settings, self.band_height, &self.choices, self.slices())
+    }
+
+    fn in_place(&self, call: &InPlace, expected: Answer) -> (u32, [Vec<i32>; 3]) {
+        let name = &call.name(self.band_height);
         let mut choices = Lent::new(&self.choices, self.alignment);
-        let [mut c1, mut c2, mut c3] = self.lent_planes();
-        let Settings { width, height, depths: [depth1, depth2, depth3], transform } = self.settings;
+        let mut planes = self.lent_planes();
+        let lent_choices = (choices.pointer().cast_const(), choices.len());
+        let lent_planes = planes.each_mut().map(|plane| (plane.pointer(), plane.len()));
         // SAFETY: every pointer points to as many elements as said, and no two overlap.
-        #[rustfmt::skip]
-        let answer = unsafe {
-            call(
-                width, height, depth1, depth2, depth3, transform,
-                choices.pointer(), choices.len(),
-                c1.pointer(), c1.len(), c2.pointer(), c2.len(), c3.pointer(), c3.len(),
-            )
-        };
-        let planes = [c1, c2, c3];
+        let answer = unsafe { call.answer(self.settings, self.band_height, lent_choices, lent_planes) };
         let (number, after) = match expected {
             Ok(planes) => (0, planes),
             Err(number) => (number, self.planes.clone()),

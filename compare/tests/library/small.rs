@@ -2,8 +2,8 @@
 //! forward direction alone: which planes some picture goes to.
 
 use crate::lent::{Lent, Word};
-use crate::library::c::{self, InPlace};
 use crate::random::{self, each_round};
+use crate::same::{Case, InPlace, FORWARD_WRAPPED, INVERSE, INVERSE_WRAPPED};
 use compare::reference::{greatest, places, ranges, run, Form, Interval, Settings, TRANSFORMS};
 use std::array::from_fn;
 use std::collections::HashMap;
@@ -33,13 +33,21 @@ fn each_planes<const N: usize>(ranges: [Interval; 3], mut with: impl FnMut(Plane
 /// Which planes come of which.
 type Reached<const N: usize> = HashMap<Planes<N>, Planes<N>>;
 
+/// What a call is told.
+#[derive(Clone, Copy, Debug)]
+struct Told<'a> {
+    settings: Settings,
+    band_height: Option<u32>,
+    filters: &'a [u8],
+}
+
 /// Which planes every picture goes to.
-fn finished<const N: usize>(form: Form, settings: Settings, filters: &[u8]) -> Reached<N> {
-    let Settings { width, height, transform, .. } = settings;
+fn finished<const N: usize>(form: Form, told: Told) -> Reached<N> {
+    let Settings { width, height, transform, .. } = told.settings;
     let mut finished = HashMap::new();
-    each_planes(sample_ranges(settings), |picture: Planes<N>| {
+    each_planes(sample_ranges(told.settings), |picture: Planes<N>| {
         let whole = picture.map(|plane| plane.map(i64::from).to_vec());
-        let planes = run(form, transform, width as usize, height as usize, filters, whole);
+        let planes = run(form, transform, width as usize, height as usize, told.band_height, told.filters, whole);
         finished.insert(picture, planes.map(|plane| from_fn(|i| plane[i] as i32)));
     });
     finished
@@ -73,31 +81,31 @@ struct Every<'a, const N: usize> {
 }
 
 impl<const N: usize> Every<'_, N> {
-    fn try_planes(&self, settings: Settings, filters: &[u8], origin: &str) {
-        let Settings { width, height, depths: [b1, b2, b3], transform } = settings;
+    fn try_planes(&self, told: Told, origin: &str) {
+        let Told { settings, band_height, filters } = told;
         let mut choices = Lent::new(filters, N);
-        let (choice, count) = (choices.pointer(), choices.len());
+        let lent_choices = (choices.pointer().cast_const(), choices.len());
         let mut accepted = 0;
         each_planes(self.ranges, |planes: Planes<N>| {
             let mut lent = guarded(planes);
             let memory: *mut i32 = lent.as_mut_ptr().cast();
             // SAFETY: each pointer points to as many elements as said, and no two overlap.
             let answer = unsafe {
-                let [c1, c2, c3] = [1, 4, 7].map(|part| memory.add(part * N));
-                (self.call)(width, height, b1, b2, b3, transform, choice, count, c1, N, c2, N, c3, N)
+                let lent_planes = [1, 4, 7].map(|part| (memory.add(part * N), N));
+                self.call.answer(settings, band_height, lent_choices, lent_planes)
             };
             let after = self.reached.get(&planes);
             accepted += usize::from(after.is_some());
             let (number, after) = after.map_or((self.refusal, planes), |after| (0, *after));
             assert!(
                 answer == number && lent == guarded(after),
-                "{settings:?}, filters {filters:?}, planes {planes:?}: answer {answer} and memory {lent:?}, \
+                "{told:?}, planes {planes:?}: answer {answer} and memory {lent:?}, \
                  expected {number} and {:?}\n{origin}",
                 guarded(after)
             );
         });
         assert_eq!(choices.differs("choices", filters), None);
-        let pictures = 1 << (N as u32 * (b1 + b2 + b3));
+        let pictures = 1 << (N as u32 * settings.depths.iter().sum::<u32>());
         assert_eq!(accepted, pictures, "every picture and its planes lie within the ranges\n{origin}");
     }
 }
@@ -108,22 +116,26 @@ fn around(ranges: [Interval; 3], beyond: i64) -> [Interval; 3] {
 }
 
 /// The inverse on every three planes within the ranges, and outside by up to `beyond`.
-fn every_inverse<const N: usize>(settings: Settings, filters: &[u8], beyond: i64, origin: &str) {
-    let reached = &pictures::<N>(&finished(Form::Plain, settings, filters));
-    let ranges = around(ranges(settings.depths, settings.transform), beyond);
-    Every { call: c::rulantip_inverse, ranges, reached, refusal: 12 }.try_planes(settings, filters, origin);
+fn every_inverse<const N: usize>(told: Told, beyond: i64, origin: &str) {
+    let reached = &pictures::<N>(&finished(Form::Plain, told));
+    let ranges = around(ranges(told.settings.depths, told.settings.transform), beyond);
+    Every { call: INVERSE, ranges, reached, refusal: 12 }.try_planes(told, origin);
 }
 
 /// Both calls of the wrapped form on every three planes of 0 to M, and outside by up to `beyond`: each of them is a picture,
 /// and what exactly one picture goes to.
-fn every_wrapped<const N: usize>(settings: Settings, filters: &[u8], beyond: i64, origin: &str) {
-    let finished = &finished::<N>(Form::Wrapped(settings.depths[0]), settings, filters);
+fn every_wrapped<const N: usize>(told: Told, beyond: i64, origin: &str) {
+    let finished = &finished::<N>(Form::Wrapped(told.settings.depths[0]), told);
     let pictures = &pictures(finished);
-    let ranges = around(sample_ranges(settings), beyond);
-    let [there, back]: [InPlace; 2] = [c::rulantip_forward_wrapped, c::rulantip_inverse_wrapped];
-    for (call, reached) in [(there, finished), (back, pictures)] {
-        Every { call, ranges, reached, refusal: 11 }.try_planes(settings, filters, origin);
+    let ranges = around(sample_ranges(told.settings), beyond);
+    for (call, reached) in [(FORWARD_WRAPPED, finished), (INVERSE_WRAPPED, pictures)] {
+        Every { call, ranges, reached, refusal: 11 }.try_planes(told, origin);
     }
+}
+
+/// Told nothing of bands.
+fn plain(settings: Settings, filters: &[u8]) -> Told<'_> {
+    Told { settings, band_height: None, filters }
 }
 
 /// Every choice of the filters for the places.
@@ -140,7 +152,8 @@ fn one_pixel(transform: u32) {
     let every: Vec<u8> = (0..=12).collect();
     let all = |depths, filters: &[u8]| {
         let settings = Settings { width: 1, height: 1, depths, transform };
-        all_choices(filters, places(transform)).for_each(|filters| every_inverse::<1>(settings, &filters, 1, ""));
+        all_choices(filters, places(transform))
+            .for_each(|filters| every_inverse::<1>(plain(settings, &filters), 1, ""));
     };
     all([2; 3], &every);
     for depths in UNEQUAL {
@@ -174,7 +187,7 @@ fn one_pixel_wrapped() {
     let every: Vec<u8> = (0..=12).collect();
     for transform in 0..TRANSFORMS {
         let settings = Settings { width: 1, height: 1, depths: [2; 3], transform };
-        all_choices(&every, places(transform)).for_each(|filters| every_wrapped::<1>(settings, &filters, 1, ""));
+        all_choices(&every, places(transform)).for_each(|filters| every_wrapped::<1>(plain(settings, &filters), 1, ""));
     }
 }
 
@@ -185,9 +198,9 @@ fn more_pixels_wrapped() {
         for transform in 0..TRANSFORMS {
             let filters = random::choices(random, places(transform));
             let (width, height) = random.one_of(&[(2, 1), (1, 2)]);
-            every_wrapped::<2>(Settings { width, height, depths: [2; 3], transform }, &filters, 1, origin);
+            every_wrapped::<2>(plain(Settings { width, height, depths: [2; 3], transform }, &filters), 1, origin);
             let (width, height) = random.one_of(&[(3, 1), (1, 3)]);
-            every_wrapped::<3>(Settings { width, height, depths: [2; 3], transform }, &filters, 0, origin);
+            every_wrapped::<3>(plain(Settings { width, height, depths: [2; 3], transform }, &filters), 0, origin);
         }
     });
 }
@@ -200,7 +213,28 @@ fn two_pixels() {
             for depths in [[2; 3], random.one_of(&[[2, 2, 3], [2, 3, 2], [3, 2, 2]])] {
                 let (width, height) = random.one_of(&[(2, 1), (1, 2)]);
                 let filters = random::choices(random, places(transform));
-                every_inverse::<2>(Settings { width, height, depths, transform }, &filters, 0, origin);
+                every_inverse::<2>(plain(Settings { width, height, depths, transform }, &filters), 0, origin);
+            }
+        }
+    });
+}
+
+/// A column of rows with bands: of one row or, if there are three rows, of two.
+#[test]
+fn columns_with_bands() {
+    each_round("columns_with_bands", 4, |random, origin| {
+        for transform in 0..TRANSFORMS {
+            for (height, rows) in [(2, 1), (3, random.one_of(&[1, 2]))] {
+                let settings = Settings { width: 1, height, depths: [2; 3], transform };
+                let case = random::case_without_scratch(random, settings, origin);
+                let Case { band_height, choices, .. } = random::banded_by(random, &case, rows);
+                let told = Told { settings, band_height, filters: &choices };
+                if height == 2 {
+                    every_inverse::<2>(told, 0, origin);
+                    every_wrapped::<2>(told, 1, origin);
+                } else {
+                    every_wrapped::<3>(told, 0, origin);
+                }
             }
         }
     });

@@ -2,6 +2,7 @@
 
 use crate::random::{self, each_round};
 use crate::same::{pixmap, Case};
+use crate::transforms::there_and_back;
 use crate::wrapped;
 use compare::generator;
 use compare::reference::{self, Scratch, Settings};
@@ -13,21 +14,22 @@ const THREADS: usize = 16;
 /// A thread's case with its answers, found before the threads start.
 struct Known {
     case: Case,
+    banded: Case,
     finished: [Vec<i32>; 3],
     found: (Vec<u8>, reference::Estimated),
     file: Vec<u8>,
 }
 
 impl Known {
-    fn new(case: Case) -> Known {
+    fn new(case: Case, banded: Case) -> Known {
         let planes = case.planes.each_ref().map(Vec::as_slice);
         let scratch = Scratch { trial: case.trial.each_ref().map(Vec::len), counters: case.counters.len() };
-        let finished = reference::forward(case.settings, &case.choices, planes).unwrap();
+        let finished = reference::forward(case.settings, None, &case.choices, planes).unwrap();
         let found = reference::search(case.settings, case.rounds, case.choices.len(), planes, scratch).unwrap();
         let Settings { width, height, depths, .. } = case.settings;
         let deepest = depths.into_iter().max().unwrap();
         let file = generator::pixmap(width, height, deepest, &case.planes);
-        Known { finished, found: (found.filters, found.estimated), file, case }
+        Known { finished, found: (found.filters, found.estimated), file, case, banded }
     }
 
     /// Every call once.
@@ -37,6 +39,7 @@ impl Known {
         let back = Case { planes: finished, ..self.case.clone() };
         back.inverse_as(Ok(self.case.planes.clone()));
         wrapped::both_ways(&self.case.wrapped());
+        there_and_back(&self.banded);
         self.case.estimate_as(Ok(self.found.clone()), true);
         self.case.estimate();
         pixmap(&self.file, b"", [0; 3], &self.case.origin);
@@ -56,7 +59,8 @@ fn sixteen_threads() {
                 };
                 let mut case = random::case_of(random, settings, origin);
                 case.rounds = 1;
-                Known::new(case)
+                let banded = random::banded(random, &case);
+                Known::new(case, banded)
             })
             .collect();
         let start = Barrier::new(THREADS);

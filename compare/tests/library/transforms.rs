@@ -6,7 +6,7 @@ use crate::wrapped;
 use compare::reference::{greatest, places, Settings, TRANSFORMS};
 
 /// Forward as the reference, and back to the picture; the same in the wrapped form.
-fn there_and_back(case: &Case) {
+pub fn there_and_back(case: &Case) {
     let (answer, finished) = case.forward();
     assert_eq!(answer, 0, "{case}");
     case.with(finished).inverse_as(Ok(case.planes.clone()));

@@ -108,15 +108,17 @@ fn sum_divided_before_it_is_reduced() {
     }
 }
 
-/// A plane that one step changes, or none, by a filtered plane of the picture itself, is the plain form's modulo 2^b.
+/// The planes that one step changes, or none, by a filtered plane of the picture itself.
+pub const BY_ONE_STEP: [&[usize]; 4] = [&[0, 2], &[0], &[0, 1, 2], &[1]];
+
+/// Such a plane is the plain form's modulo 2^b.
 #[test]
 fn plain_form_modulo() {
-    const PLANES: [&[usize]; 4] = [&[0, 2], &[0], &[0, 1, 2], &[1]];
     each_round("plain_form_modulo", 10, |random, origin| {
         each_depth_and_transform(|depth, transform| {
             let case = case_of(random, (7, 6), depth, transform, origin);
             let ((_, plain), (_, wrapped)) = (case.forward(), case.forward_wrapped());
-            for &plane in PLANES[transform as usize] {
+            for &plane in BY_ONE_STEP[transform as usize] {
                 let modulo: Vec<i32> = plain[plane].iter().map(|number| number.rem_euclid(1 << depth)).collect();
                 assert_eq!(wrapped[plane], modulo, "{case}");
             }
@@ -127,7 +129,7 @@ fn plain_form_modulo() {
 /// Ranges of R, G and B in which no step leaves 0 to M, whatever the filters. RCT: G is 0. YCoCg-R: B is 0, so plane 3 is at
 /// most M/2, and G is M. RDgDb: from B to G to R every sample is above those before. LDgEb: R is above M/2, no G is above
 /// an R, so plane 1 is R less at most M/2, and B is M.
-fn staying(transform: u32, m: i64) -> [(i64, i64); 3] {
+pub fn staying(transform: u32, m: i64) -> [(i64, i64); 3] {
     match transform {
         0 => [(0, m), (0, 0), (0, m)],
         1 => [(0, m), (m, m), (0, 0)],

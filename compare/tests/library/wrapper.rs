@@ -56,6 +56,33 @@ fn wrapped_forms() {
     }
 }
 
+/// One column. The first row has filter 1 at both places, the second at place 2 alone, so its 9 stays.
+#[test]
+fn bands() {
+    type Banded = fn(Settings, u32, &[u8], [&mut [i32]; 3]) -> Result<(), Refusal>;
+    let column = Settings { width: 1, height: 2, ..SETTINGS };
+    let one_depth = Settings { depths: [7; 3], ..column };
+    let after = |call: Banded, settings, rows, choices: &[u8], mut planes: Planes| {
+        call(settings, rows, choices, planes.each_mut().map(|plane| plane.as_mut_slice())).map(|()| planes)
+    };
+    let sets = [1, 1, 12, 1];
+    let calls: [(Banded, Banded, Settings, Planes); 2] = [
+        (library::forward_banded, library::inverse_banded, column, [[10, 20], [-85, -86], [94, 9]]),
+        (library::forward_wrapped_banded, library::inverse_wrapped_banded, one_depth, [[10, 20], [43, 42], [94, 9]]),
+    ];
+    for (there, back, settings, finished) in calls {
+        assert_eq!(after(there, settings, 1, &sets, PICTURE), Ok(finished));
+        assert_eq!(after(back, settings, 1, &sets, finished), Ok(PICTURE));
+        for call in [there, back] {
+            assert_eq!(after(call, settings, 0, &sets, PICTURE), Err(Refusal::Band));
+            assert_eq!(after(call, settings, 3, &sets, PICTURE), Err(Refusal::Band));
+            assert_eq!(after(call, settings, 2, &sets, PICTURE), Err(Refusal::Choices));
+        }
+    }
+    assert_eq!(after(library::inverse_banded, column, 1, &sets, [[0, 0], [0, 0], [0, -1]]), Err(Refusal::Unreached));
+    assert_eq!(after(library::inverse_wrapped_banded, column, 1, &sets, PICTURE), Err(Refusal::Unequal));
+}
+
 /// The report's example in the papers.
 #[test]
 fn estimate_and_search() {
@@ -113,6 +140,6 @@ fn pixmaps() {
 
 #[test]
 fn refusals_by_number() {
-    assert_eq!(Refusal::ALL.map(Refusal::number), [1, 2, 3, 4, 5, 6, 7, 8, 9, 10, 11, 12, 16]);
+    assert_eq!(Refusal::ALL.map(Refusal::number), [1, 2, 3, 4, 5, 6, 7, 8, 9, 10, 11, 12, 16, 17]);
     assert!(Refusal::ALL.iter().all(|refusal| !refusal.to_string().is_empty()));
 }

@@ -37,19 +37,21 @@ fn print_filter(separator: &[u8], filter: u8) {
     io::print_decimal(STDOUT_FILENO, filter as u64);
 }
 
-// At most four filters, with commas between.
+// Filter i of a list, behind a blank or a comma.
+fn print_filter_at(i: usize, f: u8) {
+    if i == 0 {
+        print_filter(b" ", f);
+    } else {
+        print_filter(b",", f);
+    }
+}
+
+// Filters with commas between.
 pub fn print_filters(filters: &[u8]) {
-    if 0 < filters.len() {
-        print_filter(b" ", filters[0]);
-    }
-    if 1 < filters.len() {
-        print_filter(b",", filters[1]);
-    }
-    if 2 < filters.len() {
-        print_filter(b",", filters[2]);
-    }
-    if 3 < filters.len() {
-        print_filter(b",", filters[3]);
+    let mut i = 0;
+    while i < filters.len() {
+        print_filter_at(i, filters[i]);
+        i += 1;
     }
 }
 

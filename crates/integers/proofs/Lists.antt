@@ -33,6 +33,12 @@ at-mapIndexed f i (z ∷ l) (suc k) h =
 pub at-mapped : (f : ℕ → ℤ → ℤ) (l : List ℤ) (k : ℕ) → k < length l → at (mapIndexed f 0 l) k ≡ f k (at l k)
 at-mapped f l k h = let e : 0 + k ≡ k = omega arith in at-mapIndexed f 0 l k h ∙ ap (λ (n : ℕ). f n (at l k)) e
 
+-- a function that changes no number at an index
+pub at-stays : (f : ℕ → ℤ → ℤ) (i : ℕ) (l : List ℤ) (k : ℕ) → ((z : ℤ) → f (i + k) z ≡ z) → at (mapIndexed f i l) k ≡ at l k
+at-stays f i [] k h = refl
+at-stays f i (z ∷ l) zero h = let e : i ≡ i + zero = omega arith in ap (λ (n : ℕ). f n z) e ∙ h z
+at-stays f i (z ∷ l) (suc k) h = at-stays f (suc i) l k (λ y. let e : suc i + k ≡ i + suc k = omega arith in ap (λ (n : ℕ). f n y) e ∙ h y)
+
 -- functions that agree below n
 pub mapIndexed-cong : (f g : ℕ → ℤ → ℤ) (n : ℕ) → ((i : ℕ) (z : ℤ) → i < n → f i z ≡ g i z) → (i : ℕ) (l : List ℤ) → i + length l ≤ n → mapIndexed f i l ≡ mapIndexed g i l
 mapIndexed-cong f g n h i [] b = refl

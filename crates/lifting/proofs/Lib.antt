@@ -3,3 +3,5 @@ pub mod TransformPasses
 pub mod Quarter
 pub mod Turns
 pub mod Readiness
+pub mod BandRows
+pub mod StepRows

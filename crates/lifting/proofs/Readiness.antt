@@ -1,7 +1,7 @@
 -- Planes are ready before each step: of a picture on its way forward and back again, and of planes within their ranges on the way back.
 use mathlib.Core.Path.{_≡_, refl, sym, ap, _∙_, subst}
 use mathlib.Core.List.{List}
-use Prim.Native.Nat.{ℕ, suc, _+_, _-_, _≤_}
+use Prim.Native.Nat.{ℕ, _+_, _-_, _≤_}
 use native.Mathlib.Omega.{arith}
 use lib.Dec.{T}
 use lib.ListN.{length, take, drop}
@@ -11,6 +11,7 @@ use Rattle.integers.proofs.Slices.{slice-front, slice-back}
 use Rattle.stage.specs.declared.Range.{Range}
 use Rattle.stage.specs.declared.Settings.{Settings}
 use Rattle.stage.specs.declared.Form.{Form}
+use Rattle.stage.specs.declared.Bands.{Bands}
 use Rattle.stage.specs.declared.Form.the-variants.{Plain}
 use Rattle.stage.specs.declared.Plane.{Plane}
 use Rattle.stage.specs.Settings.{depthAt, depthsSuit}
@@ -29,18 +30,18 @@ pub picture-first : {s : Settings} {p : Planes} → Picture s p → AtStep s 0 p
 picture-first x = record { size = x .size; inside = x .samples }
 
 -- further steps on, in a form that takes the depths
-pub at-next : (κ : Form) {s : Settings} {i : ℕ} {q : Planes} → T (depthsSuit κ (s .depths)) → AtStep s i q → (j : ℕ) (φ : List ℕ) (p : Planes) → i ≤ j → p ≡ run (setup κ s φ) (slice (steps (s .transform)) i j) q → AtStep s j p
-at-next κ {s} {i} {q} d z j φ p h e =
+pub at-next : (κ : Form) (β : Bands) {s : Settings} {i : ℕ} {q : Planes} → T (depthsSuit κ (s .depths)) → AtStep s i q → (j : ℕ) (φ : List ℕ) (p : Planes) → i ≤ j → p ≡ run (setup κ β s φ) (slice (steps (s .transform)) i j) q → AtStep s j p
+at-next κ β {s} {i} {q} d z j φ p h e =
     let l = steps (s .transform) in
     let m = slice l i j in
     let before = ranges (take i l) (sampleRanges s) in
     let n : i + (j - i) ≡ j = omega arith in
     let r : ranges m before ≡ ranges (take j l) (sampleRanges s) =
     sym (ranges-append (take i l) m (sampleRanges s)) ∙ ap (λ (x : List Step). ranges x (sampleRanges s)) (sym (take-add i (j - i) l) ∙ ap (λ (x : ℕ). take x l) n) in
-    let keeps = keeps-wider (setup κ s φ) (sampleRanges s) before (ranges-grow (take i l) (sampleRanges s)) (forms-keep-ranges κ s φ d) in
+    let keeps = keeps-wider (setup κ β s φ) (sampleRanges s) before (ranges-grow (take i l) (sampleRanges s)) (forms-keep-ranges κ β s φ d) in
     rw e (record {
-      size = λ c. run-length (setup κ s φ) m q c ∙ z .size c;
-      inside = subst (λ (x : Triple Range). InRanges x (run (setup κ s φ) m q)) r (run-in (setup κ s φ) m before q keeps (z .inside));
+      size = λ c. run-length (setup κ β s φ) m q c ∙ z .size c;
+      inside = subst (λ (x : Triple Range). InRanges x (run (setup κ β s φ) m q)) r (run-in (setup κ β s φ) m before q keeps (z .inside));
     })
 
 module _ {s : Settings} (deep : (c : Plane) → depthAt s c ≤ 16) where
@@ -51,38 +52,38 @@ module _ {s : Settings} (deep : (c : Plane) → depthAt s c ≤ 16) where
   pub at-ready : {k : ℕ} {q : Planes} → AtStep s k q → Ready s q
   at-ready {k} {q} z = record { size = z .size; small = bounded-in q (in-inside (finishedRanges s) bounded (finished-within s deep) q (at-finished z)) }
 
-  module _ (κ : Form) (d : T (depthsSuit κ (s .depths))) {φ : List ℕ} {from to : ℕ} (fit : StepsFit s φ from to) {q : Planes} (z : AtStep s from q) where
-    pub between : (k : ℕ) → from ≤ k → Ready s (run (setup κ s φ) (slice (steps (s .transform)) from k) q)
-    between k h = at-ready (at-next κ d z k φ _ h refl)
+  module _ (κ : Form) (β : Bands) (d : T (depthsSuit κ (s .depths))) {φ : List ℕ} {from to : ℕ} (fit : StepsFit β s φ from to) {q : Planes} (z : AtStep s from q) where
+    between : (k : ℕ) → from ≤ k → Ready s (run (setup κ β s φ) (slice (steps (s .transform)) from k) q)
+    between k h = at-ready (at-next κ β d z k φ _ h refl)
 
-    pub ready-run : RunReady κ s φ from to q
-    ready-run = record { fit = fit; before = λ k h _. between k h }
+    pub ready-run : RunReady κ β s φ from to q
+    ready-run = record { fit = fit; ready = λ k h _. between k h }
 
   -- and back
-  pub ready-undo : {φ : List ℕ} {from to : ℕ} (fit : StepsFit s φ from to) {q : Planes} (z : AtStep s from q) {p : Planes} → p ≡ run (setup Plain s φ) (slice (steps (s .transform)) from to) q
-      → UndoReady Plain s φ from to p
-  ready-undo {φ} {from} {to} fit {q} z {p} e = record {
+  pub ready-undo : {β : Bands} {φ : List ℕ} {from to : ℕ} (fit : StepsFit β s φ from to) {q : Planes} (z : AtStep s from q) {p : Planes} → p ≡ run (setup Plain β s φ) (slice (steps (s .transform)) from to) q
+      → UndoReady Plain β s φ from to p
+  ready-undo {β} {φ} {from} {to} fit {q} z {p} e = record {
     fit = fit;
-    before = λ k h g.
-        subst (Ready s) (sym (ap (undo (setup Plain s φ) (slice (steps (s .transform)) (suc k) to)) e ∙ run-back s φ from (suc k) to q (omega arith) (omega arith)))
-        (between Plain tt fit z (suc k) (omega arith));
+    ready = λ k h g.
+        subst (Ready s) (sym (ap (undo (setup Plain β s φ) (slice (steps (s .transform)) k to)) e ∙ run-back β s φ from k to q h g))
+        (between Plain β tt fit z k h);
   }
 
   -- the way back of planes within their ranges
-  module _ (κ : Form) (d : T (depthsSuit κ (s .depths))) {φ : List ℕ} {n : ℕ} (fit : StepsFit s φ 0 n) (all : n ≡ length (steps (s .transform))) {q : Planes} (size : HasSize s q) (inside : InRanges (finishedRanges s) q) where
-    pub undone : (k : ℕ) → Ready s (undo (setup κ s φ) (drop k (steps (s .transform))) q)
+  module _ (κ : Form) (β : Bands) (d : T (depthsSuit κ (s .depths))) {φ : List ℕ} {n : ℕ} (fit : StepsFit β s φ 0 n) (all : n ≡ length (steps (s .transform))) {q : Planes} (size : HasSize s q) (inside : InRanges (finishedRanges s) q) where
+    undone : (k : ℕ) → Ready s (undo (setup κ β s φ) (drop k (steps (s .transform))) q)
     undone k = record {
-      size = λ c. undo-length (setup κ s φ) (drop k (steps (s .transform))) q c ∙ size c;
-      small = bounded-in _ (met-back s (setup κ s φ) k q deep (forms-keep-ranges κ s φ d) inside);
+      size = λ c. undo-length (setup κ β s φ) (drop k (steps (s .transform))) q c ∙ size c;
+      small = bounded-in _ (met-back s (setup κ β s φ) k q deep (forms-keep-ranges κ β s φ d) inside);
     }
 
-    pub ready-inverse : UndoReady κ s φ 0 n q
-    ready-inverse = record { fit = fit; before = λ k _ _. rw (slice-back (steps (s .transform)) (suc k) n all) (undone (suc k)) }
+    pub ready-inverse : UndoReady κ β s φ 0 n q
+    ready-inverse = record { fit = fit; ready = λ k _ _. rw (slice-back (steps (s .transform)) k n all) (undone k) }
 
   -- and forward again
-  pub ready-again : {φ : List ℕ} {n : ℕ} (fit : StepsFit s φ 0 n) (all : n ≡ length (steps (s .transform))) {q : Planes} (size : HasSize s q) (inside : InRanges (finishedRanges s) q)
-      {u : Planes} → u ≡ undo (setup Plain s φ) (slice (steps (s .transform)) 0 n) q → RunReady Plain s φ 0 n u
-  ready-again {φ} {n} fit all {q} size inside {u} e = record {
+  pub ready-again : {β : Bands} {φ : List ℕ} {n : ℕ} (fit : StepsFit β s φ 0 n) (all : n ≡ length (steps (s .transform))) {q : Planes} (size : HasSize s q) (inside : InRanges (finishedRanges s) q)
+      {u : Planes} → u ≡ undo (setup Plain β s φ) (slice (steps (s .transform)) 0 n) q → RunReady Plain β s φ 0 n u
+  ready-again {β} {φ} {n} fit all {q} size inside {u} e = record {
     fit = fit;
-    before = λ k _ _. rw (e, slice-back (steps (s .transform)) 0 n all, slice-front (steps (s .transform)) k, undo-part s φ k q) (undone Plain tt fit all size inside k);
+    ready = λ k _ _. rw (e, slice-back (steps (s .transform)) 0 n all, slice-front (steps (s .transform)) k, undo-part β s φ k q) (undone Plain β tt fit all size inside k);
   }

@@ -13,11 +13,12 @@ use Rattle.integers.proofs.Lists.{all-wider}
 use Rattle.integers.proofs.Changes.{changed-all, changed-as, changed-idle}
 use Rattle.stage.specs.declared.Settings.{Settings}
 use Rattle.stage.specs.declared.Form.{Form}
+use Rattle.stage.specs.declared.Bands.{Bands}
 use Rattle.stage.specs.declared.Plane.{Plane}
 use Rattle.stage.specs.declared.Plane.the-variants.{C1, C2, C3}
 use Rattle.stage.specs.Planes.{Planes, get, put, samePlane}
 use Rattle.stage.specs.Filter.{filtered}
-use Rattle.stage.specs.Steps.{steps, places, step}
+use Rattle.stage.specs.Steps.{Setup, steps, places, lifted}
 use Rattle.stage.specs.Transform.{HasSize, setup}
 use Rattle.stage.proofs.Triples.{get-put, get-other, others-same}
 use Rattle.kernel.specs.declared.pass.KeptPass.{KeptPass}
@@ -139,15 +140,14 @@ pub rows-all : {f : ℕ → ℤ → ℤ} {c : Plane} {s : Settings} {p q : Plane
 rows-all {f} {c} {s} {p} {q} z r = others-same p q c (r .others) ∙ ap (put p c) (changed-rows (s .width) (s .height) (z c) (r .rows))
 
 -- ---- steps of one place
-module _ (κ : Form) (s : Settings) (φ : List ℕ) (p : Planes) where
-  -- what the pass of place k makes of all rows
-  abbrev whole : Bool → ℕ → ℕ → Planes
-  whole back t k =
-      let x = passAt t k in
-      put p (x .changed) (mapIndexed (passed κ s back (getD φ k 0) x p) 0 (get p (x .changed)))
+module _ (κ : Form) (β : Bands) (s : Settings) (φ : List ℕ) (p : Planes) where
+  abbrev σ : Setup
+  σ = setup κ β s φ
 
-  abbrev Made : ℕ → ℕ → Bool → Type 0
-  Made t k back = whole back t k ≡ step (setup κ s φ) (reversedIf back (stepAt t k)) p
+  -- the pass of place k makes of every sample what step k does, by the filter that the place has there
+  pub record Made (t k : ℕ) (back : Bool) : Type 0 where
+    pub plane : passAt t k .changed ≡ reversedIf back (stepAt t k) .plane
+    pub each : (i : ℕ) (z : ℤ) → passed κ s back (σ .filter k i) (passAt t k) p i z ≡ lifted σ p (reversedIf back (stepAt t k)) i z
 
   both : (t k : ℕ) → Made t k true → Made t k false → (back : Bool) → Made t k back
   both t k x y true = x
@@ -156,32 +156,32 @@ module _ (κ : Form) (s : Settings) (φ : List ℕ) (p : Planes) where
   -- every step but RCT's third is the pass of the place that has its number
   pub one-pass : (t k : ℕ) → k < length (steps t) → (eqb t 0 && eqb k 2) ≡ false → (back : Bool) → Made t k back
   unfolding made applied
-  one-pass zero zero b e = both 0 0 refl refl
-  one-pass zero (suc zero) b e = both 0 1 refl refl
+  one-pass zero zero b e = both 0 0 (record { plane = refl; each = λ i z. refl }) (record { plane = refl; each = λ i z. refl })
+  one-pass zero (suc zero) b e = both 0 1 (record { plane = refl; each = λ i z. refl }) (record { plane = refl; each = λ i z. refl })
   one-pass zero (suc (suc zero)) b e = absurd (subst T e tt)
   one-pass zero (suc (suc (suc k))) b e = absurd (omega arith)
-  one-pass (suc zero) zero b e = both 1 0 refl refl
-  one-pass (suc zero) (suc zero) b e = both 1 1 refl refl
-  one-pass (suc zero) (suc (suc zero)) b e = both 1 2 refl refl
-  one-pass (suc zero) (suc (suc (suc zero))) b e = both 1 3 refl refl
+  one-pass (suc zero) zero b e = both 1 0 (record { plane = refl; each = λ i z. refl }) (record { plane = refl; each = λ i z. refl })
+  one-pass (suc zero) (suc zero) b e = both 1 1 (record { plane = refl; each = λ i z. refl }) (record { plane = refl; each = λ i z. refl })
+  one-pass (suc zero) (suc (suc zero)) b e = both 1 2 (record { plane = refl; each = λ i z. refl }) (record { plane = refl; each = λ i z. refl })
+  one-pass (suc zero) (suc (suc (suc zero))) b e = both 1 3 (record { plane = refl; each = λ i z. refl }) (record { plane = refl; each = λ i z. refl })
   one-pass (suc zero) (suc (suc (suc (suc k)))) b e = absurd (omega arith)
-  one-pass (suc (suc zero)) zero b e = both 2 0 refl refl
-  one-pass (suc (suc zero)) (suc zero) b e = both 2 1 refl refl
+  one-pass (suc (suc zero)) zero b e = both 2 0 (record { plane = refl; each = λ i z. refl }) (record { plane = refl; each = λ i z. refl })
+  one-pass (suc (suc zero)) (suc zero) b e = both 2 1 (record { plane = refl; each = λ i z. refl }) (record { plane = refl; each = λ i z. refl })
   one-pass (suc (suc zero)) (suc (suc k)) b e = absurd (omega arith)
-  one-pass (suc (suc (suc zero))) zero b e = both 3 0 refl refl
-  one-pass (suc (suc (suc zero))) (suc zero) b e = both 3 1 refl refl
-  one-pass (suc (suc (suc zero))) (suc (suc zero)) b e = both 3 2 refl refl
+  one-pass (suc (suc (suc zero))) zero b e = both 3 0 (record { plane = refl; each = λ i z. refl }) (record { plane = refl; each = λ i z. refl })
+  one-pass (suc (suc (suc zero))) (suc zero) b e = both 3 1 (record { plane = refl; each = λ i z. refl }) (record { plane = refl; each = λ i z. refl })
+  one-pass (suc (suc (suc zero))) (suc (suc zero)) b e = both 3 2 (record { plane = refl; each = λ i z. refl }) (record { plane = refl; each = λ i z. refl })
   one-pass (suc (suc (suc zero))) (suc (suc (suc k))) b e = absurd (omega arith)
   one-pass (suc (suc (suc (suc t)))) k b e = absurd (omega arith)
 
-  -- RCT's third step, in any terms for its filters
-  pub quarter-step : (t k f g : ℕ) → (t ≡ 0) × (k ≡ 2) → f ≡ getD φ k 0 → g ≡ getD φ 3 0 → (back : Bool)
-      → put p C2 (mapIndexed (quarterAt κ (s .depths .c1) (s .width) (s .height) back f g (p .c1) (p .c3)) 0 (p .c2)) ≡ step (setup κ s φ) (reversedIf back (stepAt t k)) p
-  quarter-step t k f g e m n back =
-      ap₂ (λ (f g : ℕ). put p C2 (mapIndexed (quarterAt κ (s .depths .c1) (s .width) (s .height) back f g (p .c1) (p .c3)) 0 (p .c2))) (m ∙ ap (λ (j : ℕ). getD φ j 0) (e .1)) n ∙ made back
-      ∙ sym (ap₂ (λ (a b : ℕ). step (setup κ s φ) (reversedIf back (stepAt a b)) p) (e .0) (e .1))
+  -- RCT's third step, in any terms for its number and its filters
+  pub quarter-step : (t k : ℕ) → (t ≡ 0) × (k ≡ 2) → (back : Bool) (i : ℕ) (z : ℤ)
+      → quarterAt κ (s .depths .c1) (s .width) (s .height) back (σ .filter k i) (σ .filter 3 i) (p .c1) (p .c3) i z ≡ lifted σ p (reversedIf back (stepAt t k)) i z
+  quarter-step t k e back i z =
+      ap (λ (j : ℕ). quarterAt κ (s .depths .c1) (s .width) (s .height) back (σ .filter j i) (σ .filter 3 i) (p .c1) (p .c3) i z) (e .1) ∙ made back
+      ∙ sym (ap₂ (λ (a b : ℕ). lifted σ p (reversedIf back (stepAt a b)) i z) (e .0) (e .1))
     where
-      made : (back : Bool) → put p C2 (mapIndexed (quarterAt κ (s .depths .c1) (s .width) (s .height) back (getD φ 2 0) (getD φ 3 0) (p .c1) (p .c3)) 0 (p .c2)) ≡ step (setup κ s φ) (reversedIf back (stepAt 0 2)) p
+      made : (back : Bool) → quarterAt κ (s .depths .c1) (s .width) (s .height) back (σ .filter 2 i) (σ .filter 3 i) (p .c1) (p .c3) i z ≡ lifted σ p (reversedIf back (stepAt 0 2)) i z
       made true = refl
       made false = refl
 

@@ -1,2 +1,3 @@
 pub mod Passes
 pub mod Steps
+pub mod BandRows

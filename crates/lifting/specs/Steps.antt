@@ -1,8 +1,8 @@
 -- What the code of the steps asks of the planes, and what it leaves.
 use mathlib.Core.Path.{_≡_}
-use mathlib.Core.Bool.{not}
+use mathlib.Core.Bool.{Bool, not}
 use mathlib.Core.List.{List}
-use Prim.Native.Nat.{ℕ, suc, _*_, _≤_, _<_}
+use Prim.Native.Nat.{ℕ, _+_, _*_, _≤_, _<_}
 use lib.Dec.{T}
 use lib.IntN.{ℤ}
 use lib.ListN.{length, take}
@@ -10,12 +10,14 @@ use Rattle.integers.specs.Lists.{AllIn, Changed}
 use Rattle.integers.specs.Slices.{slice}
 use Rattle.stage.specs.declared.Settings.{Settings}
 use Rattle.stage.specs.declared.Form.{Form}
+use Rattle.stage.specs.declared.Bands.{Bands}
 use Rattle.stage.specs.declared.Plane.{Plane}
-use Rattle.stage.specs.Settings.{pixels}
+use Rattle.stage.specs.Settings.{bandsSuit, pixels}
 use Rattle.stage.specs.Planes.{Planes, get, samePlane}
-use Rattle.stage.specs.Steps.{steps, places, run, undo}
+use Rattle.stage.specs.Steps.{steps, places, step, run, undo}
 use Rattle.stage.specs.Ranges.{ranges, sampleRanges, InRanges}
 use Rattle.stage.specs.Transform.{HasSize, choicesFit, setup}
+use Rattle.lifting.specs.Passes.{stepAt, reversedIf}
 
 -- planes of the picture's size with samples within ±2^19
 pub record Ready (s : Settings) (p : Planes) : Type 0 where
@@ -50,29 +52,29 @@ pub record RowsChanged (f : ℕ → ℤ → ℤ) (c : Plane) (s : Settings) (fro
   pub rows : Changed f (from * s .width) (to * s .width) (get p c) (get q c)
   pub others : (d : Plane) → T (not (samePlane d c)) → get q d ≡ get p d
 
--- step k
-pub record StepReady (s : Settings) (φ : List ℕ) (k : ℕ) (p : Planes) : Type 0 where
-  pub transform : s .transform ≤ 3
-  pub step : k < length (steps (s .transform))
-  pub depth : s .depths .c1 ≤ 16
-  pub choices : T (choicesFit s φ)
-  pub planes : Ready s p
-
--- steps from .. to − 1, and back: planes that are ready before each
-pub record StepsFit (s : Settings) (φ : List ℕ) (from to : ℕ) : Type 0 where
+-- steps from .. to − 1 of a transform, with bands and choices that fit
+pub record StepsFit (β : Bands) (s : Settings) (φ : List ℕ) (from to : ℕ) : Type 0 where
   pub transform : s .transform ≤ 3
   pub order : from ≤ to
   pub last : to ≤ length (steps (s .transform))
   pub depth : s .depths .c1 ≤ 16
-  pub choices : T (choicesFit s φ)
+  pub bands : T (bandsSuit β (s .height))
+  pub choices : T (choicesFit β s φ)
 
-pub record RunReady (κ : Form) (s : Settings) (φ : List ℕ) (from to : ℕ) (p : Planes) : Type 0 where
-  pub fit : StepsFit s φ from to
-  pub before : (k : ℕ) → from ≤ k → k < to → Ready s (run (setup κ s φ) (slice (steps (s .transform)) from k) p)
+-- step k, or back: planes that are ready before it and after it, and so while it runs
+pub record StepReady (κ : Form) (β : Bands) (s : Settings) (φ : List ℕ) (k : ℕ) (back : Bool) (p : Planes) : Type 0 where
+  pub fit : StepsFit β s φ k (k + 1)
+  pub before : Ready s p
+  pub after : Ready s (step (setup κ β s φ) (reversedIf back (stepAt (s .transform) k)) p)
 
-pub record UndoReady (κ : Form) (s : Settings) (φ : List ℕ) (from to : ℕ) (p : Planes) : Type 0 where
-  pub fit : StepsFit s φ from to
-  pub before : (k : ℕ) → from ≤ k → k < to → Ready s (undo (setup κ s φ) (slice (steps (s .transform)) (suc k) to) p)
+-- steps from .. to − 1, and back: planes that are ready before each and after the last
+pub record RunReady (κ : Form) (β : Bands) (s : Settings) (φ : List ℕ) (from to : ℕ) (p : Planes) : Type 0 where
+  pub fit : StepsFit β s φ from to
+  pub ready : (k : ℕ) → from ≤ k → k ≤ to → Ready s (run (setup κ β s φ) (slice (steps (s .transform)) from k) p)
+
+pub record UndoReady (κ : Form) (β : Bands) (s : Settings) (φ : List ℕ) (from to : ℕ) (p : Planes) : Type 0 where
+  pub fit : StepsFit β s φ from to
+  pub ready : (k : ℕ) → from ≤ k → k ≤ to → Ready s (undo (setup κ β s φ) (slice (steps (s .transform)) k to) p)
 
 -- Planes as a picture's are before step k: of its size, and within the ranges that its samples have after k steps.
 pub record AtStep (s : Settings) (k : ℕ) (p : Planes) : Type 0 where

@@ -1,167 +1,100 @@
-// Lifting steps forward and back, in place. Each step is one pass over a plane, but for RCT's third, whose two filtered values take
-// two passes over each row. A step whose places are all null is skipped: it takes none.
+// Lifting steps forward and back, in place, in all bands of a picture. A step covers the whole picture before the next begins.
 ghost use mathlib.Core.Path.{_≡_};
-ghost use mathlib.Core.Bool.{cond};
-ghost use Prim.Native.Nat.{_<_, _*_};
+ghost use Prim.Native.Nat.{_≤_, _<_, min};
 ghost use lib.ListN.{length, getD};
-ghost use Rattle.integers.specs.Lists.{Changed};
 ghost use Rattle.integers.specs.Slices.{slice};
-ghost use Rattle.stage.specs.Filter.{filtered};
 ghost use Rattle.stage.specs.Planes.{triple};
 ghost use Rattle.stage.specs.Steps.{steps, step, run, undo};
 ghost use Rattle.stage.specs.Transform.{setup};
-ghost use Rattle.kernel.specs.Pass.{keptPass, applied};
-ghost use Rattle.kernel.specs.Lifting.{Liftable};
-ghost use Rattle.lifting.specs.Passes.{passAt, stepAt, reversedIf, number, firstOther, passed, quarterAt};
-ghost use Rattle.lifting.specs.Steps.{PassReady, QuarterReady, RowsChanged, StepReady, RunReady, UndoReady};
-use crate::passes::Pass;
-use crate::passes::pass_at;
-use kernel::lift_rows;
-use kernel::pass::KeptPass;
+ghost use Rattle.lifting.specs.Passes.{stepAt, reversedIf};
+ghost use Rattle.lifting.specs.Steps.{StepReady, RunReady, UndoReady};
+ghost use Rattle.lifting.specs.BandRows.{bandRows, rowsBefore, BandReady, BandChanged};
+use crate::passes::places;
+use crate::rows::lift_plane;
+use crate::rows::lift_quarter;
+use stage::Bands;
 use stage::Form;
-use stage::Plane;
 use stage::Settings;
-use stage::same_plane;
 
-// The kernel's pass forward, or back, and how its result is kept.
-fn kept_pass(x: Pass, back: bool, form: Form, depth: u32) -> KeptPass
-    ensures { λ r. ⌜ r ≡ keptPass (number back x) form depth ⌝ }
+// How many rows a band has; the last one may have fewer.
+fn band_rows(bands: Bands, height: u32) -> usize
+    ensures { λ r. ⌜ (r ≡ bandRows bands height) × (r < 4294967296) ⌝ }
 {
-    KeptPass {
-        number: if back { x.back } else { x.forward },
-        form: form,
-        depth: depth,
+    match bands {
+        Bands::One => height as usize,
+        Bands::Of(n) => n as usize,
     }
 }
 
-// The first of the two planes other than one.
-fn first_other(plane: Plane) -> Plane
-    ensures { λ r. ⌜ r ≡ firstOther plane ⌝ }
+fn lesser(a: usize, b: usize) -> usize
+    ensures { λ r. ⌜ r ≡ min a b ⌝ }
 {
-    match plane {
-        Plane::C1 => Plane::C2,
-        Plane::C2 => Plane::C1,
-        Plane::C3 => Plane::C1,
-    }
+    if a < b { a } else { b }
 }
 
-// Rows from .. to − 1 of plane c by a pass with plane a, or else with plane b.
-fn lift_by(
-    c: &mut [i32],
-    a: &[i32],
-    b: &[i32],
-    width: usize,
-    height: usize,
-    first: bool,
-    filter: usize,
-    pass: KeptPass,
-    from: usize,
-    to: usize,
-)
-    requires { ⌜ Liftable width height filter pass from to (cond first (now a) (now b)) (now c) ⌝ }
-    ensures { λ _. ⌜ Changed (λ i x. applied pass x (filtered width height filter (cond first (now (a .entry)) (now (b .entry))) i)) (from * width) (to * width) (now (c .entry)) (now (c .exit)) ⌝ }
+// How many rows the bands above a band have: the number of its first row, and past the last band all rows.
+fn rows_before(bands: Bands, height: u32, band: usize) -> usize
+    requires { ⌜ band ≤ height ⌝ }
+    ensures { λ r. ⌜ r ≡ rowsBefore bands height band ⌝ }
 {
-    if first {
-        lift_rows(c, a, width, height, filter, pass, from, to);
-    } else {
-        lift_rows(c, b, width, height, filter, pass, from, to);
-    }
+    lesser(band * band_rows(bands, height), height as usize)
 }
 
-// Rows from .. to − 1 of one plane by a step of one place, or back: by the pass of the place under its filter. A null filter leaves
-// them as they are.
-fn lift_plane(
+fn filter_at(choices: &[u8], choice: usize) -> usize
+    requires { ⌜ choice < length (now choices) ⌝ }
+    ensures { λ r. ⌜ r ≡ getD (now (choices .entry)) choice 0 ⌝ }
+{
+    choices[choice] as usize
+}
+
+// Step k of a transform, or back, in the rows of one band, by that band's filters.
+fn lift_band(
     c1: &mut [i32],
     c2: &mut [i32],
     c3: &mut [i32],
     settings: Settings,
     form: Form,
-    place: usize,
-    filter: usize,
+    bands: Bands,
+    choices: &[u8],
+    k: usize,
     back: bool,
-    from: usize,
-    to: usize,
+    band: usize,
 )
-    requires { ⌜ PassReady settings place filter from to (triple (now c1) (now c2) (now c3)) ⌝ }
-    ensures { λ _. ⌜ RowsChanged (passed form settings back filter (passAt (settings .transform) place) (triple (now (c1 .entry)) (now (c2 .entry)) (now (c3 .entry)))) (passAt (settings .transform) place .changed) settings from to (triple (now (c1 .entry)) (now (c2 .entry)) (now (c3 .entry))) (triple (now (c1 .exit)) (now (c2 .exit)) (now (c3 .exit))) ⌝ }
+    requires { ⌜ BandReady bands settings (now choices) k band (triple (now c1) (now c2) (now c3)) ⌝ }
+    ensures { λ _. ⌜ BandChanged form bands settings (now (choices .entry)) k back band (triple (now (c1 .entry)) (now (c2 .entry)) (now (c3 .entry))) (triple (now (c1 .exit)) (now (c2 .exit)) (now (c3 .exit))) ⌝ }
 {
-    if filter == 12 {
-        return;
-    }
-    let x = pass_at(settings.transform, place);
-    let n = kept_pass(x, back, form, settings.depths.c1);
-    let w = settings.width as usize;
-    let h = settings.height as usize;
-    let changed = x.changed;
-    let read = x.read;
-    let first = same_plane(read, first_other(changed));
-    match changed {
-        Plane::C1 => lift_by(c1, c2, c3, w, h, first, filter, n, from, to),
-        Plane::C2 => lift_by(c2, c1, c3, w, h, first, filter, n, from, to),
-        Plane::C3 => lift_by(c3, c1, c2, w, h, first, filter, n, from, to),
+    let from = rows_before(bands, settings.height, band);
+    let to = rows_before(bands, settings.height, band + 1);
+    let first = places(settings.transform) * band;
+    let f = filter_at(choices, first + k);
+    if (settings.transform == 0) & (k == 2) {
+        let g = filter_at(choices, first + 3);
+        lift_quarter(c2, c1, c3, settings, form, f, g, back, from, to);
+    } else {
+        lift_plane(c1, c2, c3, settings, form, k, f, back, from, to);
     }
 }
 
-// RCT's third step, or back: rows from .. to − 1 of plane c by a quarter of the filtered values of planes a and b. The first pass keeps its
-// result as it is, so that it is divided before it is reduced. Two null filters leave c as it is.
-fn lift_quarter(
-    c: &mut [i32],
-    a: &[i32],
-    b: &[i32],
-    settings: Settings,
-    form: Form,
-    f: usize,
-    g: usize,
-    back: bool,
-    from: usize,
-    to: usize,
-)
-    requires { ⌜ QuarterReady settings f g from to (now a) (now b) (now c) ⌝ }
-    ensures { λ _. ⌜ Changed (quarterAt form (settings .depths .c1) (settings .width) (settings .height) back f g (now (a .entry)) (now (b .entry))) (from * settings .width) (to * settings .width) (now (c .entry)) (now (c .exit)) ⌝ }
-{
-    if (f == 12) & (g == 12) {
-        return;
-    }
-    let first = kept_pass(pass_at(0, 2), back, Form::Plain, settings.depths.c1);
-    let second = kept_pass(pass_at(0, 3), back, form, settings.depths.c1);
-    let w = settings.width as usize;
-    let h = settings.height as usize;
-    let mut y = from;
-    while y < to {
-        lift_rows(c, a, w, h, f, first, y, y + 1);
-        lift_rows(c, b, w, h, g, second, y, y + 1);
-        y += 1;
-    }
-}
-
-fn filter_at(choices: &[u8], place: usize) -> usize
-    requires { ⌜ place < length (now choices) ⌝ }
-    ensures { λ r. ⌜ r ≡ getD (now (choices .entry)) place 0 ⌝ }
-{
-    choices[place] as usize
-}
-
-// Step k of a transform, or back.
+// Step k of a transform, or back, band after band.
 fn run_step(
     c1: &mut [i32],
     c2: &mut [i32],
     c3: &mut [i32],
     settings: Settings,
     form: Form,
+    bands: Bands,
     choices: &[u8],
     k: usize,
     back: bool,
 )
-    requires { ⌜ StepReady settings (now choices) k (triple (now c1) (now c2) (now c3)) ⌝ }
-    ensures { λ _. ⌜ triple (now (c1 .exit)) (now (c2 .exit)) (now (c3 .exit)) ≡ step (setup form settings (now (choices .entry))) (reversedIf back (stepAt (settings .transform) k)) (triple (now (c1 .entry)) (now (c2 .entry)) (now (c3 .entry))) ⌝ }
+    requires { ⌜ StepReady form bands settings (now choices) k back (triple (now c1) (now c2) (now c3)) ⌝ }
+    ensures { λ _. ⌜ triple (now (c1 .exit)) (now (c2 .exit)) (now (c3 .exit)) ≡ step (setup form bands settings (now (choices .entry))) (reversedIf back (stepAt (settings .transform) k)) (triple (now (c1 .entry)) (now (c2 .entry)) (now (c3 .entry))) ⌝ }
 {
     let h = settings.height as usize;
-    let f = filter_at(choices, k);
-    if (settings.transform == 0) & (k == 2) {
-        let g = filter_at(choices, 3);
-        lift_quarter(c2, c1, c3, settings, form, f, g, back, 0, h);
-    } else {
-        lift_plane(c1, c2, c3, settings, form, k, f, back, 0, h);
+    let mut band = 0;
+    while rows_before(bands, settings.height, band) < h {
+        lift_band(c1, c2, c3, settings, form, bands, choices, k, back, band);
+        band += 1;
     }
 }
 
@@ -172,16 +105,17 @@ pub fn run_steps(
     c3: &mut [i32],
     settings: Settings,
     form: Form,
+    bands: Bands,
     choices: &[u8],
     from: usize,
     to: usize,
 )
-    requires { ⌜ RunReady form settings (now choices) from to (triple (now c1) (now c2) (now c3)) ⌝ }
-    ensures { λ _. ⌜ triple (now (c1 .exit)) (now (c2 .exit)) (now (c3 .exit)) ≡ run (setup form settings (now (choices .entry))) (slice (steps (settings .transform)) from to) (triple (now (c1 .entry)) (now (c2 .entry)) (now (c3 .entry))) ⌝ }
+    requires { ⌜ RunReady form bands settings (now choices) from to (triple (now c1) (now c2) (now c3)) ⌝ }
+    ensures { λ _. ⌜ triple (now (c1 .exit)) (now (c2 .exit)) (now (c3 .exit)) ≡ run (setup form bands settings (now (choices .entry))) (slice (steps (settings .transform)) from to) (triple (now (c1 .entry)) (now (c2 .entry)) (now (c3 .entry))) ⌝ }
 {
     let mut k = from;
     while k < to {
-        run_step(c1, c2, c3, settings, form, choices, k, false);
+        run_step(c1, c2, c3, settings, form, bands, choices, k, false);
         k += 1;
     }
 }
@@ -193,16 +127,17 @@ pub fn undo_steps(
     c3: &mut [i32],
     settings: Settings,
     form: Form,
+    bands: Bands,
     choices: &[u8],
     from: usize,
     to: usize,
 )
-    requires { ⌜ UndoReady form settings (now choices) from to (triple (now c1) (now c2) (now c3)) ⌝ }
-    ensures { λ _. ⌜ triple (now (c1 .exit)) (now (c2 .exit)) (now (c3 .exit)) ≡ undo (setup form settings (now (choices .entry))) (slice (steps (settings .transform)) from to) (triple (now (c1 .entry)) (now (c2 .entry)) (now (c3 .entry))) ⌝ }
+    requires { ⌜ UndoReady form bands settings (now choices) from to (triple (now c1) (now c2) (now c3)) ⌝ }
+    ensures { λ _. ⌜ triple (now (c1 .exit)) (now (c2 .exit)) (now (c3 .exit)) ≡ undo (setup form bands settings (now (choices .entry))) (slice (steps (settings .transform)) from to) (triple (now (c1 .entry)) (now (c2 .entry)) (now (c3 .entry))) ⌝ }
 {
     let mut k = to;
     while from < k {
         k -= 1;
-        run_step(c1, c2, c3, settings, form, choices, k, true);
+        run_step(c1, c2, c3, settings, form, bands, choices, k, true);
     }
 }

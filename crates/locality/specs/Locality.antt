@@ -8,6 +8,7 @@ use Rattle.integers.specs.Lists.{at}
 use Rattle.stage.specs.declared.Plane.{Plane}
 use Rattle.stage.specs.declared.Settings.{Settings}
 use Rattle.stage.specs.declared.Form.{Form}
+use Rattle.stage.specs.declared.Bands.the-variants.{One}
 use Rattle.stage.specs.Answers.{Outcome, done}
 use Rattle.stage.specs.Settings.{each, settingsOf}
 use Rattle.stage.specs.Planes.{Triple, Planes, triple, get}
@@ -85,10 +86,10 @@ pub record ReachTable : Type 0 where
   pub pointwise : map (λ l. reaches (λ k. 0) l none) transforms ≡ none ∷ none ∷ none ∷ none ∷ []
 
 -- ---- No distance is too large
--- the call that goes this way
+-- the call that goes this way, without bands
 abbrev pub call : Way → Form → Settings → List ℕ → Planes → Outcome (Unit {0}) Planes
-call there = forward
-call back = inverse
+call there κ = forward κ One
+call back κ = inverse κ One
 
 -- It reaches further than d from the first pixel: there are choices and two pictures, or finished planes, which it accepts, that agree within d of that
 -- pixel, and it leaves two numbers there.

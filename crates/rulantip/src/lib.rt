@@ -1,11 +1,9 @@
 // The library as C, C++ and Rust callers see it; include/rulantip.h declares it. Each function makes the inner call's settings and
 // takes its answer apart. depth1, depth2 and depth3 are those of planes 1, 2 and 3.
 ghost use mathlib.Core.Path.{_≡_};
-ghost use Rattle.stage.specs.declared.Form.the-variants.{Plain, Wrapped};
 ghost use Rattle.stage.specs.Answers.{number, replyOf};
 ghost use Rattle.stage.specs.Planes.{triple};
 ghost use Rattle.stage.specs.Settings.{depthsOf, settingsOf};
-ghost use Rattle.stage.specs.Transform.{forward, inverse};
 ghost use Rattle.stage.specs.Search.{countersCall, estimateCall, searchCall};
 ghost use Rattle.stage.specs.Pixmap.{headerOf, planesOf};
 ghost use Rattle.search.specs.Calls.{scratchOf, lent};
@@ -15,6 +13,8 @@ use search::Estimated;
 use stage::Answer;
 use stage::Depths;
 use stage::Settings;
+
+pub mod transforms;
 
 fn depths(depth1: u32, depth2: u32, depth3: u32) -> Depths
     ensures { λ r. ⌜ r ≡ depthsOf depth1 depth2 depth3 ⌝ }
@@ -26,7 +26,7 @@ fn depths(depth1: u32, depth2: u32, depth3: u32) -> Depths
     }
 }
 
-fn settings(
+pub(crate) fn settings(
     width: u32,
     height: u32,
     depth1: u32,
@@ -45,89 +45,13 @@ fn settings(
 }
 
 // 0, or the number of a refusal.
-fn number(answer: Answer) -> u32
+pub(crate) fn number(answer: Answer) -> u32
     ensures { λ r. ⌜ r ≡ number (replyOf answer) ⌝ }
 {
     match answer {
         Answer::Done => 0,
         Answer::Refused(n) => n,
     }
-}
-
-#[no_mangle]
-pub extern "C" fn rulantip_forward(
-    width: u32,
-    height: u32,
-    depth1: u32,
-    depth2: u32,
-    depth3: u32,
-    transform: u32,
-    choices: &[u8],
-    c1: &mut [i32],
-    c2: &mut [i32],
-    c3: &mut [i32],
-) -> u32
-    ensures { λ r. ⌜ returned r (triple (now (c1 .exit)) (now (c2 .exit)) (now (c3 .exit))) ≡ numbered (forward Plain (settingsOf width height (depthsOf depth1 depth2 depth3) transform) (now (choices .entry)) (triple (now (c1 .entry)) (now (c2 .entry)) (now (c3 .entry)))) ⌝ }
-{
-    let settings = settings(width, height, depth1, depth2, depth3, transform);
-    number(transform::forward(settings, choices, c1, c2, c3))
-}
-
-#[no_mangle]
-pub extern "C" fn rulantip_forward_wrapped(
-    width: u32,
-    height: u32,
-    depth1: u32,
-    depth2: u32,
-    depth3: u32,
-    transform: u32,
-    choices: &[u8],
-    c1: &mut [i32],
-    c2: &mut [i32],
-    c3: &mut [i32],
-) -> u32
-    ensures { λ r. ⌜ returned r (triple (now (c1 .exit)) (now (c2 .exit)) (now (c3 .exit))) ≡ numbered (forward Wrapped (settingsOf width height (depthsOf depth1 depth2 depth3) transform) (now (choices .entry)) (triple (now (c1 .entry)) (now (c2 .entry)) (now (c3 .entry)))) ⌝ }
-{
-    let settings = settings(width, height, depth1, depth2, depth3, transform);
-    number(transform::forward_wrapped(settings, choices, c1, c2, c3))
-}
-
-#[no_mangle]
-pub extern "C" fn rulantip_inverse(
-    width: u32,
-    height: u32,
-    depth1: u32,
-    depth2: u32,
-    depth3: u32,
-    transform: u32,
-    choices: &[u8],
-    c1: &mut [i32],
-    c2: &mut [i32],
-    c3: &mut [i32],
-) -> u32
-    ensures { λ r. ⌜ returned r (triple (now (c1 .exit)) (now (c2 .exit)) (now (c3 .exit))) ≡ numbered (inverse Plain (settingsOf width height (depthsOf depth1 depth2 depth3) transform) (now (choices .entry)) (triple (now (c1 .entry)) (now (c2 .entry)) (now (c3 .entry)))) ⌝ }
-{
-    let settings = settings(width, height, depth1, depth2, depth3, transform);
-    number(transform::inverse(settings, choices, c1, c2, c3))
-}
-
-#[no_mangle]
-pub extern "C" fn rulantip_inverse_wrapped(
-    width: u32,
-    height: u32,
-    depth1: u32,
-    depth2: u32,
-    depth3: u32,
-    transform: u32,
-    choices: &[u8],
-    c1: &mut [i32],
-    c2: &mut [i32],
-    c3: &mut [i32],
-) -> u32
-    ensures { λ r. ⌜ returned r (triple (now (c1 .exit)) (now (c2 .exit)) (now (c3 .exit))) ≡ numbered (inverse Wrapped (settingsOf width height (depthsOf depth1 depth2 depth3) transform) (now (choices .entry)) (triple (now (c1 .entry)) (now (c2 .entry)) (now (c3 .entry)))) ⌝ }
-{
-    let settings = settings(width, height, depth1, depth2, depth3, transform);
-    number(transform::inverse_wrapped(settings, choices, c1, c2, c3))
 }
 
 #[repr(C)]

@@ -17,6 +17,7 @@ use Rattle.stage.specs.Planes.{Planes, triple, get, mapTriple}
 use Rattle.stage.specs.Steps.{steps, places}
 use Rattle.stage.specs.Ranges.{sampleRanges}
 use Rattle.stage.specs.declared.Form.the-variants.{Plain}
+use Rattle.stage.specs.declared.Bands.the-variants.{One}
 use Rattle.stage.specs.Transform.{lengths, settingsTests, isPicture, Picture}
 use Rattle.stage.specs.Estimate.{counted}
 use Rattle.stage.specs.Search.{cleared, clearedScratch, scratchFits, scratchTests, searched, choicesEstimate, estimated, winners}
@@ -53,15 +54,15 @@ zero-cleared n = record { each = go n }
 
 -- past the tests up to 9, of picture p and lent trial planes t
 pub record Passed (s : Settings) (fit : Bool) (p t : Planes) (counters : List ℕ) : Type 0 where
-  pub settings : ValidSettings Plain s fit (lengths p)
+  pub settings : ValidSettings Plain One s fit (lengths p)
   pub scratch : ValidScratch s (lengths t) (length counters)
 
 pub passed : (s : Settings) (fit : Bool) (p t : Planes) (counters : List ℕ) → Holds (scratchTests s fit (lengths p) (lengths t) (length counters))
     → Passed s fit p t counters
 passed s fit p t counters h =
     let n = length counters in
-    let both = holds-append (settingsTests Plain s fit (lengths p)) ((scratchFits s (lengths t) n else 9) ∷ []) .0 h in
-    record { settings = settings-iff Plain s fit (lengths p) .0 (both .0); scratch = scratch-valid s (lengths t) n (both .1 .0) }
+    let both = holds-append (settingsTests Plain One s fit (lengths p)) ((scratchFits s (lengths t) n else 9) ∷ []) .0 h in
+    record { settings = settings-iff Plain One s fit (lengths p) .0 (both .0); scratch = scratch-valid s (lengths t) n (both .1 .0) }
 
 module _ {s : Settings} {fit : Bool} {p t : Planes} {counters : List ℕ} (h : Passed s fit p t counters) where
   pub room : Room p t

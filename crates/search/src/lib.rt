@@ -10,12 +10,13 @@ use estimate::counted;
 use lifting::passes::places;
 use ranges::is_picture;
 use refusals::scratch_refusal;
-use refusals::select;
 use scratch::clear_planes;
 use scratch::prepare;
+use stage::Bands;
 use stage::Settings;
 use stage::is_between;
 use transform::settings::choices_fit;
+use transform::settings::select;
 use trials::estimate_picture;
 use trials::search_picture;
 
@@ -50,7 +51,7 @@ pub fn estimate(
 ) -> Estimated
     ensures { λ r. ⌜ EstimateGives settings (now (choices .entry)) (triple (now (c1 .entry)) (now (c2 .entry)) (now (c3 .entry))) (scratchOf (triple (now (t1 .entry)) (now (t2 .entry)) (now (t3 .entry))) (now (counters .entry))) r (scratchOf (triple (now (t1 .exit)) (now (t2 .exit)) (now (t3 .exit))) (now (counters .exit))) ⌝ }
 {
-    let fit = choices_fit(settings, choices);
+    let fit = choices_fit(settings, Bands::One, choices);
     let n = c1.len();
     let refused = scratch_refusal(
         settings,

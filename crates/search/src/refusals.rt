@@ -1,15 +1,16 @@
 // What the calling program can get wrong beyond a transform's settings, in 01's order, from numbers and lengths alone.
 ghost use mathlib.Core.Path.{_≡_};
-ghost use mathlib.Core.Bool.{cond};
 ghost use lib.Dec.{leb};
 ghost use Rattle.stage.specs.Answers.{refusal};
 ghost use Rattle.stage.specs.Planes.{triple};
 ghost use Rattle.stage.specs.Settings.{Allowed};
 ghost use Rattle.stage.specs.Search.{countersNeeded, allAtLeast, scratchTests};
 use ranges::counters_needed;
+use stage::Bands;
 use stage::Form;
 use stage::Settings;
 use transform::settings::refusal;
+use transform::settings::select;
 
 fn counters_fit(settings: Settings, counters: usize) -> bool
     requires { ⌜ Allowed settings ⌝ }
@@ -23,12 +24,6 @@ fn planes_fit(n: usize, m1: usize, m2: usize, m3: usize) -> bool
     ensures { λ r. ⌜ r ≡ allAtLeast n (triple m1 m2 m3) ⌝ }
 {
     (n <= m1) & ((n <= m2) & (n <= m3))
-}
-
-pub fn select(b: bool, x: u32, y: u32) -> u32
-    ensures { λ r. ⌜ r ≡ cond b x y ⌝ }
-{
-    if b { x } else { y }
 }
 
 // The number of the first test up to 9 that fails, or 0. `choices` says whether the call's own test of the choices holds; n1, n2 and
@@ -46,7 +41,7 @@ pub fn scratch_refusal(
 ) -> u32
     ensures { λ r. ⌜ r ≡ refusal (scratchTests settings choices (triple n1 n2 n3) (triple m1 m2 m3) counters) ⌝ }
 {
-    let n = refusal(settings, Form::Plain, choices, n1, n2, n3);
+    let n = refusal(settings, Form::Plain, Bands::One, choices, n1, n2, n3);
     if n != 0 {
         return n;
     }

@@ -8,7 +8,7 @@ use native.Mathlib.Omega.{arith}
 use lib.Dec.{T, ltb, leb, eqb, leb→le, le→leb, eqb·suc-zero}
 use borrow.Author.Tests.{ne-eqb}
 use Rattle.integers.proofs.Booleans.{and-iff}
-use Rattle.stage.specs.Answers.{done, refused, Test, _else_, refusal, answer, Outcome, outcome, between, sized}
+use Rattle.stage.specs.Answers.{done, refused, Test, _else_, refusal, replyBy, answer, Outcome, outcome, between, sized}
 
 -- every test holds
 abbrev pub Holds : List Test → Type 0
@@ -99,6 +99,23 @@ module _ {A M : Type 0} (v : A) (result before : M) where
       kept : (b : Bool) → refusal (l ++ (b else n) ∷ []) ≡ cond b 0 n → (T b → ⊥) → record { reply = refused n; memory = before } ≡ outcome (l ++ (b else n) ∷ []) v result before
       kept true p f = absurd (f tt)
       kept false p f = sym (outcome-refused (l ++ (false else n) ∷ []) n (sym p) (positive n k))
+
+-- Two calls that are lent the same, whose first tests give the same refusal, and which where these hold agree in the last test and in the result.
+module _ {A M : Type 0} (v : A) (before : M) (l m : List Test) (j : Numbered l) (k : Numbered m) (e : refusal l ≡ refusal m) where
+  pub calls-agree : (b c : Bool) (n : ℕ) (x y : M) → (Holds l → (b ≡ c) × (x ≡ y)) → outcome (l ++ (b else n) ∷ []) v x before ≡ outcome (m ++ (c else n) ∷ []) v y before
+  calls-agree b c n x y same = by (refusal l) refl
+    where
+      by : (r : ℕ) → refusal l ≡ r → outcome (l ++ (b else n) ∷ []) v x before ≡ outcome (m ++ (c else n) ∷ []) v y before
+      by zero z =
+          let h = refusal-holds l j z in
+          let s = same h in
+          let first : refusal (l ++ (b else n) ∷ []) ≡ refusal (m ++ (c else n) ∷ []) =
+          refusal-past l ((b else n) ∷ []) h ∙ ap (λ (t : Bool). cond t 0 n) (s .0) ∙ sym (refusal-past m ((c else n) ∷ []) (refusal-holds m k (sym e ∙ z))) in
+          λ o. record { reply = replyBy (first o) v; memory = cond (eqb (first o) 0) (s .1 o) before }
+      by (suc r) z =
+          let some : suc r ≡ 0 → ⊥ = λ f. omega arith in
+          outcome-refused v x before (l ++ (b else n) ∷ []) (suc r) (refusal-first l ((b else n) ∷ []) (suc r) (sym z) some) some
+          ∙ sym (outcome-refused v y before (m ++ (c else n) ∷ []) (suc r) (refusal-first m ((c else n) ∷ []) (suc r) (sym (sym e ∙ z)) some) some)
 
 -- ---- A call makes its first tests, l, whose refusal is n, and then its last one, b: the first that fails decides, and where none
 -- does the call is done.

@@ -12,7 +12,7 @@ use Rattle.integers.specs.Lists.{at}
 use Rattle.integers.proofs.Booleans.{and-iff}
 use Rattle.integers.proofs.Ranges.{in-wider, in-zero}
 use Rattle.integers.proofs.FloorModulo.{floorMod-in, floorMod-own, mod-sum, mod-neg}
-use Rattle.stage.specs.Settings.{Settings, Form, Plain, Wrapped, depthAt, depthsSuit}
+use Rattle.stage.specs.Settings.{Settings, Form, Plain, Wrapped, Bands, depthAt, depthsSuit}
 use Rattle.stage.specs.Planes.{Plane, C1, C2, C3, Planes, get}
 use Rattle.stage.specs.Steps.{Step, Lifting, add, subtract, negate, lift, opposite, run, undo, steps}
 use Rattle.stage.specs.Ranges.{Range, maxSample, sampleRange, sampleRanges, finishedRanges, formRanges, InRanges}
@@ -71,21 +71,21 @@ range-first s h c = by c ∙ ap sampleRange (depth-first s h c)
     by C3 = refl
 
 pub forms-keep-ranges : FormsKeepRanges
-forms-keep-ranges Plain s φ h c R i z w = w
-forms-keep-ranges Wrapped s φ h c R i z w =
+forms-keep-ranges Plain β s φ h c R i z w = w
+forms-keep-ranges Wrapped β s φ h c R i z w =
     let e = ap (λ (r : Range). r .above) (range-first s h c) in
     let k = floorMod-in (2 ^ (s .depths .c1)) (pow-pos (s .depths .c1)) z in
     in-wider k (omega arith) (omega (arith, i .high))
 
 -- samples of 0 to M are as they are kept, and what is kept so is 0 to M
-module _ (s : Settings) (φ : List ℕ) where
-  pub samples-kept : (κ : Form) → T (depthsSuit κ (s .depths)) → (p : Planes) → InRanges (sampleRanges s) p → Kept (setup κ s φ) p
+module _ (β : Bands) (s : Settings) (φ : List ℕ) where
+  pub samples-kept : (κ : Form) → T (depthsSuit κ (s .depths)) → (p : Planes) → InRanges (sampleRanges s) p → Kept (setup κ β s φ) p
   samples-kept Plain h p i c k = refl
   samples-kept Wrapped h p i c k =
       floorMod-own (2 ^ (s .depths .c1)) (pow-pos (s .depths .c1)) (at (get p c) k)
       (subst (λ (r : Range). In (r .below) (r .above) (at (get p c) k)) (range-first s h c) (i c .each k))
 
-  pub kept-samples : T (depthsSuit Wrapped (s .depths)) → (p : Planes) → Kept (setup Wrapped s φ) p → InRanges (sampleRanges s) p
+  pub kept-samples : T (depthsSuit Wrapped (s .depths)) → (p : Planes) → Kept (setup Wrapped β s φ) p → InRanges (sampleRanges s) p
   kept-samples h p k c = record {
     each = λ i.
         subst (λ (r : Range). In (r .below) (r .above) (at (get p c) i)) (sym (range-first s h c))
@@ -93,38 +93,38 @@ module _ (s : Settings) (φ : List ℕ) where
   }
 
 -- ---- all steps of a transform
-module _ (κ : Form) (s : Settings) (φ : List ℕ) where
-  pub forms-cancel : (p : Planes) → Kept (setup κ s φ) p → (untransformed κ s φ (transformed κ s φ p) ≡ p) × (transformed κ s φ (untransformed κ s φ p) ≡ p)
+module _ (κ : Form) (β : Bands) (s : Settings) (φ : List ℕ) where
+  pub forms-cancel : (p : Planes) → Kept (setup κ β s φ) p → (untransformed κ β s φ (transformed κ β s φ p) ≡ p) × (transformed κ β s φ (untransformed κ β s φ p) ≡ p)
   unfolding transformed untransformed
   forms-cancel p k =
       let r = reversible κ (s .depths .c1) in
       let t = s .transform in
-      (undo-run (setup κ s φ) r (steps t) (apart t) p k, run-undo (setup κ s φ) r (steps t) (apart t) p k)
+      (undo-run (setup κ β s φ) r (steps t) (apart t) p k, run-undo (setup κ β s φ) r (steps t) (apart t) p k)
 
   -- they leave every plane's length
-  pub same-size : (p q : Planes) → transformed κ s φ p ≡ q → (c : Plane) → length (get q c) ≡ length (get p c)
+  pub same-size : (p q : Planes) → transformed κ β s φ p ≡ q → (c : Plane) → length (get q c) ≡ length (get p c)
   unfolding transformed
-  same-size p q e c = ap (λ (x : Planes). length (get x c)) (sym e) ∙ run-length (setup κ s φ) (steps (s .transform)) p c
+  same-size p q e c = ap (λ (x : Planes). length (get x c)) (sym e) ∙ run-length (setup κ β s φ) (steps (s .transform)) p c
 
 pub steps-cancel : StepsCancel
-steps-cancel s φ p = forms-cancel Plain s φ p (λ c k. refl)
+steps-cancel β s φ p = forms-cancel Plain β s φ p (λ c k. refl)
 
 pub wrapped-steps-cancel : WrappedStepsCancel
-wrapped-steps-cancel s φ p h i = forms-cancel Wrapped s φ p (samples-kept s φ Wrapped h p i)
+wrapped-steps-cancel β s φ p h i = forms-cancel Wrapped β s φ p (samples-kept β s φ Wrapped h p i)
 
 -- after any steps, and after undoing any
-module _ (s : Settings) (φ : List ℕ) (h : T (depthsSuit Wrapped (s .depths))) (p : Planes) (i : InRanges (sampleRanges s) p) where
-  pub wrapped-run-in : (l : List Step) → InRanges (sampleRanges s) (run (setup Wrapped s φ) l p)
-  wrapped-run-in l = kept-samples s φ h _ (run-kept (setup Wrapped s φ) (reversible Wrapped (s .depths .c1)) l p (samples-kept s φ Wrapped h p i))
+module _ (β : Bands) (s : Settings) (φ : List ℕ) (h : T (depthsSuit Wrapped (s .depths))) (p : Planes) (i : InRanges (sampleRanges s) p) where
+  pub wrapped-run-in : (l : List Step) → InRanges (sampleRanges s) (run (setup Wrapped β s φ) l p)
+  wrapped-run-in l = kept-samples β s φ h _ (run-kept (setup Wrapped β s φ) (reversible Wrapped (s .depths .c1)) l p (samples-kept β s φ Wrapped h p i))
 
-  pub wrapped-undo-in : (l : List Step) → InRanges (sampleRanges s) (undo (setup Wrapped s φ) l p)
-  wrapped-undo-in l = kept-samples s φ h _ (undo-kept (setup Wrapped s φ) (reversible Wrapped (s .depths .c1)) l p (samples-kept s φ Wrapped h p i))
+  pub wrapped-undo-in : (l : List Step) → InRanges (sampleRanges s) (undo (setup Wrapped β s φ) l p)
+  wrapped-undo-in l = kept-samples β s φ h _ (undo-kept (setup Wrapped β s φ) (reversible Wrapped (s .depths .c1)) l p (samples-kept β s φ Wrapped h p i))
 
 -- what a picture goes to lies within the ranges of finished planes
-pub goes-within : (κ : Form) (s : Settings) (φ : List ℕ) (p q : Planes) → T (depthsSuit κ (s .depths)) → GoesTo κ s φ p q → InRanges (formRanges κ s) q
+pub goes-within : (κ : Form) (β : Bands) (s : Settings) (φ : List ℕ) (p q : Planes) → T (depthsSuit κ (s .depths)) → GoesTo κ β s φ p q → InRanges (formRanges κ s) q
 unfolding transformed
-goes-within Plain s φ p q h g =
+goes-within Plain β s φ p q h g =
     subst (InRanges (finishedRanges s)) (g .goes)
-    (run-in (setup Plain s φ) (steps (s .transform)) (sampleRanges s) p (plain-keeps s φ _) (g .picture .samples))
-goes-within Wrapped s φ p q h g =
-    subst (InRanges (sampleRanges s)) (g .goes) (wrapped-run-in s φ h p (g .picture .samples) (steps (s .transform)))
+    (run-in (setup Plain β s φ) (steps (s .transform)) (sampleRanges s) p (plain-keeps β s φ _) (g .picture .samples))
+goes-within Wrapped β s φ p q h g =
+    subst (InRanges (sampleRanges s)) (g .goes) (wrapped-run-in β s φ h p (g .picture .samples) (steps (s .transform)))

@@ -16,6 +16,7 @@ pub mod Demand3
 pub mod WrappedForms
 pub mod Setups
 pub mod NullSteps
+pub mod BandedForms
 pub mod Unskipped
 pub mod StoredPlanes
 pub mod Equations

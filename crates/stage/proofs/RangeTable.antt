@@ -81,9 +81,9 @@ pub steps-keep-ranges : StepsKeepRanges
 steps-keep-ranges s σ n p k h = run-in σ (take n (steps (s .transform))) (sampleRanges s) p k h
 
 pub second-step-samples : SecondStepSamples
-second-step-samples s b φ p d e h =
-    subst (λ (r : Range). AllIn (r .below) (r .above) (run (setup Plain s φ) (take 2 YCoCg-R) p .c3)) (second-step-range s b d e)
-    (run-in (setup Plain s φ) (take 2 YCoCg-R) (sampleRanges s) p (plain-keeps s φ _) (h .samples) C3)
+second-step-samples β s b φ p d e h =
+    subst (λ (r : Range). AllIn (r .below) (r .above) (run (setup Plain β s φ) (take 2 YCoCg-R) p .c3)) (second-step-range s b d e)
+    (run-in (setup Plain β s φ) (take 2 YCoCg-R) (sampleRanges s) p (plain-keeps β s φ _) (h .samples) C3)
 
 pub within-table : WithinTable
-within-table s b φ p q d e g = subst (λ (r : Triple Range). InRanges r q) (ranges-are-table s b d e) (goes-within Plain s φ p q tt g)
+within-table β s b φ p q d e g = subst (λ (r : Triple Range). InRanges r q) (ranges-are-table s b d e) (goes-within Plain β s φ p q tt g)

@@ -3,14 +3,18 @@
 -- alone.
 use mathlib.Core.Path.{_≡_, refl, ap, ap₂, _∙_}
 use mathlib.Core.Bool.{cond, _&&_}
-use Prim.Native.Nat.{ℕ}
+use mathlib.Core.List.{List, [], _∷_}
+use Prim.Native.Nat.{ℕ, _<_}
+use native.Mathlib.Omega.{arith}
 use lib.Dec.{eqb}
 use lib.IntN.{ℤ, _+ℤ_}
+use lib.ListN.{length}
 use Rattle.integers.specs.Parts.{floorDiv}
-use Rattle.integers.proofs.Lists.{mapIndexed-same}
-use Rattle.stage.specs.Planes.{Planes, get, put}
+use Rattle.integers.proofs.Lists.{mapIndexed-cong}
+use Rattle.stage.specs.Planes.{Plane, Planes, get, put}
 use Rattle.stage.specs.Filter.{filtered}
-use Rattle.stage.specs.Steps.{Setup, Step, Term, _ᵈ_, _⊕_, _/2, _/4, value, allNull, lift, lifted, step}
+use Rattle.stage.specs.Steps.{Setup, Step, Term, _ᵈ_, _⊕_, _/2, _/4, value, allNull, lift, lifted, reversed, step, run, undo}
+use Rattle.stage.proofs.Reversal.{step-length, undo-length}
 
 module _ (σ τ : Setup) (p q : Planes) (i j : ℕ) where
   -- the term's places have the same filters, and these give the same values
@@ -47,11 +51,11 @@ SameFilters σ τ (t ⊕ u) i = SameFilters σ τ t i × SameFilters σ τ u i
 SameFilters σ τ (t /2) i = SameFilters σ τ t i
 SameFilters σ τ (t /4) i = SameFilters σ τ t i
 
-pub same-filters : (σ τ : Setup) → ((k i : ℕ) → σ .filter k i ≡ τ .filter k i) → (t : Term) (i : ℕ) → SameFilters σ τ t i
-same-filters σ τ h (c ᵈ k) i = h k i
-same-filters σ τ h (t ⊕ u) i = (same-filters σ τ h t i, same-filters σ τ h u i)
-same-filters σ τ h (t /2) i = same-filters σ τ h t i
-same-filters σ τ h (t /4) i = same-filters σ τ h t i
+pub same-filters : (σ τ : Setup) (i : ℕ) → ((k : ℕ) → σ .filter k i ≡ τ .filter k i) → (t : Term) → SameFilters σ τ t i
+same-filters σ τ i h (c ᵈ k) = h k
+same-filters σ τ i h (t ⊕ u) = (same-filters σ τ i h t, same-filters σ τ i h u)
+same-filters σ τ i h (t /2) = same-filters σ τ i h t
+same-filters σ τ i h (t /4) = same-filters σ τ i h t
 
 module _ (σ τ : Setup) (w : σ .width ≡ τ .width) (h : σ .height ≡ τ .height) (p : Planes) where
   pub same-term : (t : Term) (i : ℕ) → SameFilters σ τ t i → SameTerm σ τ p p i i t
@@ -60,8 +64,27 @@ module _ (σ τ : Setup) (w : σ .width ≡ τ .width) (h : σ .height ≡ τ .h
   same-term (t /2) i e = same-term t i e
   same-term (t /4) i e = same-term t i e
 
-  pub step-same : σ .skips ≡ τ .skips → ((z : ℤ) → σ .keep z ≡ τ .keep z) → (x : Step) → ((i : ℕ) → SameFilters σ τ (x .term) i) → step σ x p ≡ step τ x p
+  -- filters count only where the step's plane has samples
+  pub step-same : σ .skips ≡ τ .skips → ((z : ℤ) → σ .keep z ≡ τ .keep z) → (x : Step) → ((i : ℕ) → i < length (get p (x .plane)) → SameFilters σ τ (x .term) i)
+      → step σ x p ≡ step τ x p
   step-same s k x e =
       ap (put p (x .plane))
-      (mapIndexed-same (lifted σ p x) (lifted τ p x)
-      (λ i z. lifted-same σ τ p p i i s k x (same-term (x .term) i (e i)) refl) 0 (get p (x .plane)))
+      (mapIndexed-cong (lifted σ p x) (lifted τ p x) (length (get p (x .plane)))
+      (λ i z b. lifted-same σ τ p p i i s k x (same-term (x .term) i (e i b)) refl) 0 (get p (x .plane)) (omega arith))
+
+-- all steps, on planes of n samples each
+module _ (σ τ : Setup) (w : σ .width ≡ τ .width) (h : σ .height ≡ τ .height) (s : σ .skips ≡ τ .skips) (k : (z : ℤ) → σ .keep z ≡ τ .keep z)
+    (n : ℕ) (e : (k i : ℕ) → i < n → σ .filter k i ≡ τ .filter k i) where
+  abbrev Long : Planes → Type 0
+  Long p = (c : Plane) → length (get p c) ≡ n
+
+  one-same : (x : Step) (p : Planes) → Long p → step σ x p ≡ step τ x p
+  one-same x p z = step-same σ τ w h p s k x (λ i b. same-filters σ τ i (λ k. e k i (rw (z (x .plane)) at b)) (x .term))
+
+  pub run-same : (l : List Step) (p : Planes) → Long p → run σ l p ≡ run τ l p
+  run-same [] p z = refl
+  run-same (x ∷ l) p z = run-same l (step σ x p) (λ c. step-length σ x p c ∙ z c) ∙ ap (run τ l) (one-same x p z)
+
+  pub undo-same : (l : List Step) (p : Planes) → Long p → undo σ l p ≡ undo τ l p
+  undo-same [] p z = refl
+  undo-same (x ∷ l) p z = one-same (reversed x) (undo σ l p) (λ c. undo-length σ l p c ∙ z c) ∙ ap (step τ (reversed x)) (undo-same l p z)

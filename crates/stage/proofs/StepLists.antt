@@ -5,7 +5,7 @@ use Prim.Native.Nat.{ℕ, suc, _+_, _-_, _≤_, _<_}
 use lib.ListN.{length, getD, take, drop, take-append-drop}
 use Rattle.integers.specs.Slices.{slice}
 use Rattle.integers.proofs.Slices.{slice-more, slice-cons, slice-split}
-use Rattle.stage.specs.Settings.{Settings, Plain}
+use Rattle.stage.specs.Settings.{Settings, Plain, Bands}
 use Rattle.stage.specs.Planes.{Plane, Triple, Planes, get}
 use Rattle.stage.specs.Steps.{Setup, Step, steps, step, run, undo, reversed}
 use Rattle.stage.specs.Ranges.{Range, stepRanges, ranges}
@@ -50,12 +50,12 @@ ranges-append [] m r = refl
 ranges-append (s ∷ l) m r = ranges-append l m (stepRanges s r)
 
 -- ---- a transform's own steps
-module _ (s : Settings) (φ : List ℕ) where
+module _ (β : Bands) (s : Settings) (φ : List ℕ) where
   abbrev l : List Step
   l = steps (s .transform)
 
   abbrev σ : Setup
-  σ = setup Plain s φ
+  σ = setup Plain β s φ
 
   -- a part of them, run and undone
   pub slice-undone : (i j : ℕ) (p : Planes) → undo σ (slice l i j) (run σ (slice l i j) p) ≡ p

@@ -10,7 +10,7 @@ use lib.ListN.{take, drop}
 use Rattle.integers.specs.Lists.{AllIn}
 use Rattle.integers.proofs.Parts.{add-difference, neg-parts, floorDiv-parts}
 use Rattle.integers.proofs.Lists.{mapIndexed-in, all-wider}
-use Rattle.stage.specs.Settings.{Settings, Plain}
+use Rattle.stage.specs.Settings.{Settings, Plain, Bands}
 use Rattle.stage.specs.Planes.{Plane, Triple, Planes, get}
 use Rattle.stage.specs.Steps.{Setup, Step, Term, Lifting, add, subtract, negate, _ᵈ_, _⊕_, _/2, _/4, value, lift, lifted, skipped, step, run, undo, reversed}
 use Rattle.stage.specs.Ranges.{Range, Within, Inside, AllInside, KeepsRanges, termRange, liftRange, stepRanges, ranges, undoneRanges, InRanges}
@@ -46,8 +46,8 @@ undone-grows [] r = λ c. omega arith
 undone-grows (s ∷ l) r = inside-trans r (undoneRanges l r) _ (undone-grows l r) (step-grows (reversed s) (undoneRanges l r))
 
 -- the plain setup keeps every range; a setup that keeps ranges keeps wider ones
-pub plain-keeps : (s : Settings) (φ : List ℕ) (r : Triple Range) → KeepsRanges r (setup Plain s φ)
-plain-keeps s φ r c R i z h = h
+pub plain-keeps : (β : Bands) (s : Settings) (φ : List ℕ) (r : Triple Range) → KeepsRanges r (setup Plain β s φ)
+plain-keeps β s φ r c R i z h = h
 
 pub keeps-wider : (σ : Setup) (r R : Triple Range) → AllInside r R → KeepsRanges r σ → KeepsRanges R σ
 keeps-wider σ r R h k c X i z w = let a = h c in let j : Inside (get r c) X = omega arith in k c X j z w

@@ -113,10 +113,10 @@ module _ (σ : Setup) (unchanged : (z : ℤ) → σ .keep z ≡ z) (m : ℕ) whe
 
 pub no-other-picture : NoOtherPicture
 unfolding transformed
-no-other-picture s φ p r h e =
+no-other-picture β s φ p r h e =
     let l = steps (s .transform) in
-    let g = inverse-iff Plain s φ r (run (unskipped (setup Plain s φ)) l p) .0 e .1 in
-    run-same (setup Plain s φ) (λ z. refl) m l (separate (s .transform)) p r (positive m l p (samples h)) (positive m l r (samples (g .picture))) (sym (g .goes))
+    let g = inverse-iff Plain β s φ r (run (unskipped (setup Plain β s φ)) l p) .0 e .1 in
+    run-same (setup Plain β s φ) (λ z. refl) m l (separate (s .transform)) p r (positive m l p (samples h)) (positive m l r (samples (g .picture))) (sym (g .goes))
   where
     -- the highest of all samples
     m : ℕ

@@ -22,6 +22,10 @@ each-test t =
     )
 
 module _ {A : Type 0} where
+  -- triples that have the same thing at every plane
+  pub triple-ext : {p q : Triple A} → ((c : Plane) → get p c ≡ get q c) → p ≡ q
+  triple-ext h = λ i. record { c1 = h C1 i; c2 = h C2 i; c3 = h C3 i }
+
   pub get-put : (p : Triple A) (c : Plane) (a : A) → get (put p c a) c ≡ a
   get-put p C1 a = refl
   get-put p C2 a = refl

@@ -33,7 +33,7 @@ module _ (σ : Setup) (unchanged : (z : ℤ) → σ .keep z ≡ z) (p : Planes) 
 
   pub unskipped-value : (t : Term) (i : ℕ) → value (unskipped σ) p t i ≡ value σ p t i
   unskipped-value t i =
-      value-same (unskipped σ) σ p p i i t (same-term (unskipped σ) σ refl refl p t i (same-filters (unskipped σ) σ (λ k i. refl) t i))
+      value-same (unskipped σ) σ p p i i t (same-term (unskipped σ) σ refl refl p t i (same-filters (unskipped σ) σ i (λ k. refl) t))
 
   -- a step that does not negate where it is null makes the same of a sample, skipped or not
   pub lifted-unskipped : (x : Step) (i : ℕ) (z : ℤ) → T (not (negates (x .lifting) && allNull σ (x .term) i)) → lifted σ p x i z ≡ lift (x .lifting) (value σ p (x .term) i) z
@@ -71,15 +71,15 @@ module _ (σ : Setup) (unchanged : (z : ℤ) → σ .keep z ≡ z) where
 
 pub skips-matter-only-in-negation : SkipsMatterOnlyInNegation
 unfolding transformed untransformed
-skips-matter-only-in-negation s φ p h = record {
-  there = run-unskipped (setup Plain s φ) (λ z. refl) (steps (s .transform)) p h;
-  back = undo-unskipped (setup Plain s φ) (λ z. refl) (steps (s .transform)) p h;
+skips-matter-only-in-negation β s φ p h = record {
+  there = run-unskipped (setup Plain β s φ) (λ z. refl) (steps (s .transform)) p h;
+  back = undo-unskipped (setup Plain β s φ) (λ z. refl) (steps (s .transform)) p h;
 }
 
 pub first-two-unaffected : FirstTwoUnaffected
-first-two-unaffected s φ p h = skips-matter-only-in-negation s φ p (none (s .transform) h)
+first-two-unaffected β s φ p h = skips-matter-only-in-negation β s φ p (none (s .transform) h)
   where
-    none : (t : ℕ) → t ≤ 1 → NoNullNegation (setup Plain s φ) (steps t)
+    none : (t : ℕ) → t ≤ 1 → NoNullNegation (setup Plain β s φ) (steps t)
     none zero h = (λ i. tt, (λ i. tt, (λ i. tt, tt)))
     none (suc zero) h = (λ i. tt, (λ i. tt, (λ i. tt, (λ i. tt, tt))))
     none (suc (suc t)) h = absurd (omega arith)

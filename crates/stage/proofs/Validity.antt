@@ -2,6 +2,7 @@
 use mathlib.Core.Path.{_≡_, sym, ap, _∙_, subst}
 use mathlib.Core.Bool.{Bool, cond, _&&_}
 use mathlib.Core.Logic.{_↔_}
+use mathlib.Core.List.{List}
 use Prim.Native.Nat.{ℕ, _*_, _≤_, _<_}
 use native.Mathlib.Nat.{mul-le-mul}
 use native.Mathlib.Omega.{arith}
@@ -9,10 +10,10 @@ use lib.Dec.{T, leb, eqb, leb→le, le→leb, eqb→eq, eqb-refl}
 use lib.ListN.{length}
 use Rattle.integers.proofs.Booleans.{holds-true, and-iff}
 use Rattle.stage.specs.Answers.{between}
-use Rattle.stage.specs.Settings.{Settings, Form, depthAt, depthsAllowed, depthsSuit, pixels, Allowed}
+use Rattle.stage.specs.Settings.{Settings, Form, Bands, depthAt, depthsAllowed, depthsSuit, bandsSuit, pixels, Allowed}
 use Rattle.stage.specs.Planes.{Plane, Triple, Planes, get}
 use Rattle.stage.specs.Ranges.{widest}
-use Rattle.stage.specs.Transform.{lengths, allEqual, settingsTests, HasSize}
+use Rattle.stage.specs.Transform.{lengths, allEqual, choicesFit, settingsTests, Fit, HasSize}
 use Rattle.stage.specs.Search.{countersNeeded, allAtLeast, scratchFits}
 use Rattle.stage.specs.Theorems.{CountersTold}
 use Rattle.stage.proofs.Answers.{Holds, between-iff, sized-iff}
@@ -38,15 +39,17 @@ counters-told s a =
     ap (λ (b : Bool). cond b (countersNeeded s) 0)
     (holds-true (depthsAllowed (s .depths) && leb (s .transform) 3) (and-iff (depthsAllowed (s .depths)) (leb (s .transform) 3) .1 (fit, known)))
 
--- The settings are allowed, the form takes the depths, the call's own test of the choices holds, and the planes, of lengths l, have the picture's size.
-pub record ValidSettings (κ : Form) (s : Settings) (choices : Bool) (l : Triple ℕ) : Type 0 where
+-- The settings are allowed, the form takes the depths, the picture has the bands, the call's own test of the choices holds, and the planes, of
+-- lengths l, have the picture's size.
+pub record ValidSettings (κ : Form) (β : Bands) (s : Settings) (choices : Bool) (l : Triple ℕ) : Type 0 where
   pub allowed : Allowed s
   pub depths-suit : T (depthsSuit κ (s .depths))
+  pub bands-suit : T (bandsSuit β (s .height))
   pub choices-fit : T choices
   pub size : (c : Plane) → get l c ≡ pixels s
 
-pub settings-iff : (κ : Form) (s : Settings) (choices : Bool) (l : Triple ℕ) → Holds (settingsTests κ s choices l) ↔ ValidSettings κ s choices l
-settings-iff κ s choices l =
+pub settings-iff : (κ : Form) (β : Bands) (s : Settings) (choices : Bool) (l : Triple ℕ) → Holds (settingsTests κ β s choices l) ↔ ValidSettings κ β s choices l
+settings-iff κ β s choices l =
     let size = sized-iff (s .width) (s .height) in
     let depths = depths-iff s in
     let all = allEqual-iff (pixels s) l in (
@@ -61,14 +64,15 @@ settings-iff κ s choices l =
           transform-most = leb→le (s .transform) 3 (k .1 .1 .1 .0);
         };
         depths-suit = k .1 .1 .0;
-        choices-fit = k .1 .1 .1 .1 .0;
-        size = all .0 (k .1 .1 .1 .1 .1 .0);
+        bands-suit = k .1 .1 .1 .1 .0;
+        choices-fit = k .1 .1 .1 .1 .1 .0;
+        size = all .0 (k .1 .1 .1 .1 .1 .1 .0);
       },
       λ v. let a = v .allowed in (
         size .1 ((a .width-least, a .width-most), (a .height-least, a .height-most)),
         (
           depths .1 (λ c. (a .depth-least c, a .depth-most c)),
-          (v .depths-suit, (le→leb (s .transform) 3 (a .transform-most), (v .choices-fit, (all .1 (v .size), tt)))),
+          (v .depths-suit, (le→leb (s .transform) 3 (a .transform-most), (v .bands-suit, (v .choices-fit, (all .1 (v .size), tt))))),
         ),
       ),
     )
@@ -77,19 +81,17 @@ settings-iff κ s choices l =
 pub length-at : (p : Planes) (c : Plane) → get (lengths p) c ≡ length (get p c)
 length-at p c = get-map length p c
 
-pub has-size : {κ : Form} {s : Settings} {choices : Bool} (p : Planes) → ValidSettings κ s choices (lengths p) → HasSize s p
+pub has-size : {κ : Form} {β : Bands} {s : Settings} {choices : Bool} (p : Planes) → ValidSettings κ β s choices (lengths p) → HasSize s p
 has-size p v c = sym (length-at p c) ∙ v .size c
 
-valid : (κ : Form) {s : Settings} (choices : Bool) (p : Planes) → Allowed s → T (depthsSuit κ (s .depths)) → T choices → HasSize s p → ValidSettings κ s choices (lengths p)
-valid κ choices p a d t z = record { allowed = a; depths-suit = d; choices-fit = t; size = λ c. length-at p c ∙ z c }
-
--- the tests of planes p pass exactly where all that is so
-pub valid-iff : (κ : Form) (s : Settings) (choices : Bool) (p : Planes)
-    → Holds (settingsTests κ s choices (lengths p)) ↔ (((Allowed s × T (depthsSuit κ (s .depths))) × T choices) × HasSize s p)
-valid-iff κ s choices p =
-    let i = settings-iff κ s choices (lengths p) in (
-      λ h. let v = i .0 h in (((v .allowed, v .depths-suit), v .choices-fit), has-size p v),
-      λ k. i .1 (valid κ choices p (k .0 .0 .0) (k .0 .0 .1) (k .0 .1) (k .1)),
+-- the tests of a call, lent planes p, pass exactly where its settings, bands and choices fit and the planes have the picture's size
+pub fit-iff : (κ : Form) (β : Bands) (s : Settings) (φ : List ℕ) (p : Planes)
+    → Holds (settingsTests κ β s (choicesFit β s φ) (lengths p)) ↔ (Fit κ β s φ × HasSize s p)
+fit-iff κ β s φ p =
+    let i = settings-iff κ β s (choicesFit β s φ) (lengths p) in (
+      λ h. let v = i .0 h in (record { allowed = v .allowed; depths = v .depths-suit; bands = v .bands-suit; choices = v .choices-fit }, has-size p v),
+      λ k. let f = k .0 in
+          i .1 (record { allowed = f .allowed; depths-suit = f .depths; bands-suit = f .bands; choices-fit = f .choices; size = λ c. length-at p c ∙ k .1 c }),
     )
 
 -- how many pixels a picture has

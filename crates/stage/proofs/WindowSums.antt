@@ -63,7 +63,7 @@ run-fits bits most s σ d k = record {
 pub sums-in-32-bits : SumsIn32Bits
 sums-in-32-bits = record {
   every = run-fits _ (λ centre m. omega arith);
-  calls = λ κ s φ d h. run-fits _ (λ centre m. omega arith) s (setup κ s φ) d (forms-keep-ranges κ s φ h);
+  calls = λ κ β s φ d h. run-fits _ (λ centre m. omega arith) s (setup κ β s φ) d (forms-keep-ranges κ β s φ h);
 }
 
 pub bits-of-i32 : BitsOfI32

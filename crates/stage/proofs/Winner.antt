@@ -9,7 +9,7 @@ use native.Mathlib.Omega.{arith}
 use lib.Dec.{T, ltb, ltb→lt, nltb→le}
 use lib.ListN.{getD, set, replicate}
 use Rattle.integers.proofs.Booleans.{true-holds, false-fails}
-use Rattle.stage.specs.Settings.{Settings}
+use Rattle.stage.specs.Settings.{Settings, One}
 use Rattle.stage.specs.Steps.{steps, places}
 use Rattle.stage.specs.Transform.{choicesFit}
 use Rattle.stage.specs.Search.{winner, round, rounds, searched}
@@ -58,19 +58,19 @@ winner-wins e φ k n = winner-leads e φ k n
 
 -- ---- the choices that a search leaves
 module _ (s : Settings) (e : List ℕ → ℕ) where
-  winner-most : (φ : List ℕ) (k : ℕ) → T (choicesFit s φ) → winner e φ k 13 ≤ 12
+  winner-most : (φ : List ℕ) (k : ℕ) → T (choicesFit One s φ) → winner e φ k 13 ≤ 12
   winner-most φ k h =
-      ⊎-elim (λ (q : winner e φ k 13 < 13). omega arith) (λ (q : winner e φ k 13 ≡ getD φ k 0). omega (arith, choices s φ h .filters k))
+      ⊎-elim (λ (q : winner e φ k 13 < 13). omega arith) (λ (q : winner e φ k 13 ≡ getD φ k 0). omega (arith, choices One s φ h .filters k))
       (winner-wins e φ k 13 .tried)
 
-  round-fit : (n : ℕ) (φ : List ℕ) → T (choicesFit s φ) → T (choicesFit s (round e n φ))
+  round-fit : (n : ℕ) (φ : List ℕ) → T (choicesFit One s φ) → T (choicesFit One s (round e n φ))
   unfolding round
   round-fit zero φ h = h
   round-fit (suc n) φ h =
       let g = round-fit n φ h in
-      choices-set s (round e n φ) g n (winner e (round e n φ) n 13) (winner-most (round e n φ) n g)
+      choices-set One s (round e n φ) g n (winner e (round e n φ) n 13) (winner-most (round e n φ) n g)
 
-  rounds-fit : (n k : ℕ) (φ : List ℕ) → T (choicesFit s φ) → T (choicesFit s (rounds e n k φ))
+  rounds-fit : (n k : ℕ) (φ : List ℕ) → T (choicesFit One s φ) → T (choicesFit One s (rounds e n k φ))
   unfolding rounds
   rounds-fit n zero φ h = h
   rounds-fit n (suc k) φ h = round-fit n (rounds e n k φ) (rounds-fit n k φ h)
@@ -79,4 +79,4 @@ pub searched-fit : SearchedFit
 unfolding searched
 searched-fit s e k =
     let n = places (steps (s .transform)) in
-    rounds-fit s e n k (replicate n 0) (choices-equal s n 0 tt refl)
+    rounds-fit s e n k (replicate n 0) (choices-equal One s n 0 tt refl)

@@ -6,7 +6,7 @@ use Prim.Native.Nat.{ℕ}
 use lib.IntN.{ℤ, pos, negℤ}
 use Rattle.stage.specs.Answers.{Reply, done, refused, Outcome}
 use Rattle.stage.specs.Planes.{Triple, Planes, triple}
-use Rattle.stage.specs.Settings.{each, settingsOf, Plain}
+use Rattle.stage.specs.Settings.{each, settingsOf, Plain, One}
 use Rattle.stage.specs.Ranges.{Range}
 use Rattle.stage.specs.Transform.{forward, inverse}
 use Rattle.stage.specs.Search.{Estimated, Scratch, Lent}
@@ -47,10 +47,10 @@ pixel r g b = triple (r ∷ []) (g ∷ []) (b ∷ [])
 
 -- "Depth 8, one pixel 10, 200, 60", through transform t with the filters φ; and planes q back
 abbrev pub there : ℕ → List ℕ → Value
-there t φ = call (forward Plain (settingsOf 1 1 (each 8) t) φ (pixel (pos 10) (pos 200) (pos 60)))
+there t φ = call (forward Plain One (settingsOf 1 1 (each 8) t) φ (pixel (pos 10) (pos 200) (pos 60)))
 
 abbrev pub back : ℕ → List ℕ → Planes → Value
-back t φ q = call (inverse Plain (settingsOf 1 1 (each 8) t) φ q)
+back t φ q = call (inverse Plain One (settingsOf 1 1 (each 8) t) φ q)
 
 -- the planes left where a call accepts, and where it refuses
 abbrev pub accepted : Planes → Value

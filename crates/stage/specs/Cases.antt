@@ -2,7 +2,7 @@
 use mathlib.Core.List.{List, [], _∷_}
 use Prim.Native.Nat.{ℕ}
 use lib.IntN.{ℤ, pos}
-use Rattle.stage.specs.Settings.{each, settingsOf, Plain}
+use Rattle.stage.specs.Settings.{each, settingsOf, Plain, One}
 use Rattle.stage.specs.Planes.{triple}
 use Rattle.stage.specs.Filter.{filtered}
 use Rattle.stage.specs.Transform.{forward}
@@ -35,7 +35,7 @@ marked =
     ∷ (there 3 (12 ∷ 12 ∷ 12 ∷ [])
     gives accepted (pixel (pos 10) (pos 200) (pos 60)))
     -- "2 by 1, RDgDb, filter 1 twice, R 10 20, G 100 101, B 7 9: plane 2 is −85 −86, plane 3 is 94 92"
-    ∷ (call (forward Plain (settingsOf 2 1 (each 8) 2) (1 ∷ 1 ∷ []) (triple (pos 10 ∷ pos 20 ∷ []) (pos 100 ∷ pos 101 ∷ []) (pos 7 ∷ pos 9 ∷ [])))
+    ∷ (call (forward Plain One (settingsOf 2 1 (each 8) 2) (1 ∷ 1 ∷ []) (triple (pos 10 ∷ pos 20 ∷ []) (pos 100 ∷ pos 101 ∷ []) (pos 7 ∷ pos 9 ∷ [])))
     gives accepted (triple (pos 10 ∷ pos 20 ∷ []) (minus 85 ∷ minus 86 ∷ []) (pos 94 ∷ pos 92 ∷ [])))
     -- "3 by 3 zeros with centre 9: filter 1 gives 1 at the centre, 2 at an edge's middle, 2 at a corner"
     ∷ (centred 1 (pos 9) 4 gives sample (pos 1))

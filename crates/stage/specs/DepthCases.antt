@@ -3,7 +3,7 @@
 use mathlib.Core.List.{List, [], _∷_}
 use Prim.Native.Nat.{ℕ}
 use lib.IntN.{pos}
-use Rattle.stage.specs.Settings.{Depths, depthsOf, each, settingsOf, Plain}
+use Rattle.stage.specs.Settings.{Depths, depthsOf, each, settingsOf, Plain, One}
 use Rattle.stage.specs.Planes.{Planes}
 use Rattle.stage.specs.Ranges.{rangeRow, finishedRanges}
 use Rattle.stage.specs.Transform.{forward, inverse}
@@ -48,10 +48,10 @@ depthRangeCases =
 
 -- one pixel through RDgDb with filters 0, and back
 abbrev there : Depths → Planes → Value
-there d p = call (forward Plain (settingsOf 1 1 d 2) (0 ∷ 0 ∷ []) p)
+there d p = call (forward Plain One (settingsOf 1 1 d 2) (0 ∷ 0 ∷ []) p)
 
 abbrev back : Depths → Planes → Value
-back d q = call (inverse Plain (settingsOf 1 1 d 2) (0 ∷ 0 ∷ []) q)
+back d q = call (inverse Plain One (settingsOf 1 1 d 2) (0 ∷ 0 ∷ []) q)
 
 abbrev black : Planes
 black = pixel (pos 0) (pos 0) (pos 0)

@@ -17,11 +17,13 @@ pub mod FilterCases
 pub mod TransformCases
 pub mod DepthCases
 pub mod WrappedCases
+pub mod BandCases
 pub mod SearchCases
 pub mod PixmapCases
 pub mod Equations
 pub mod Demand3
 pub mod WrappedForms
+pub mod BandedForms
 pub mod NullSteps
 pub mod Theorems
 pub mod WindowSums

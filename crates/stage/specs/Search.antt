@@ -7,7 +7,7 @@ use lib.Dec.{ltb, leb}
 use lib.IntN.{pos}
 use lib.ListN.{length, getD, set, replicate}
 use Rattle.stage.specs.Answers.{Test, _else_, Outcome, outcome, between}
-use Rattle.stage.specs.Settings.{Settings, Depths, Plain, settingsOf, depthsAllowed, pixels}
+use Rattle.stage.specs.Settings.{Settings, Depths, Plain, One, settingsOf, depthsAllowed, pixels}
 use Rattle.stage.specs.Planes.{Triple, Planes, mapTriple}
 use Rattle.stage.specs.Steps.{steps, places}
 use Rattle.stage.specs.Ranges.{widest}
@@ -37,7 +37,7 @@ module _ (e : List ℕ → ℕ) where
 
 -- The estimate of picture p under choices φ. "Searches, estimates .. keep to the unwrapped forms" (02, request 9).
 unfoldable pub choicesEstimate : Settings → Planes → List ℕ → ℕ
-choicesEstimate s p φ = pictureEstimate (s .width) (transformed Plain s φ p)
+choicesEstimate s p φ = pictureEstimate (s .width) (transformed Plain One s φ p)
 
 -- what both calls answer: the estimate, and N
 pub record Estimated : Type 0 where
@@ -78,7 +78,7 @@ clearedScratch m = record { trials = mapTriple (cleared (pos 0)) (m .trials); co
 
 -- The tests of both calls, up to 9; l has the lengths of the picture's planes, trials those of the trial planes.
 abbrev pub scratchTests : (s : Settings) (choices : Bool) (l trials : Triple ℕ) (counters : ℕ) → List Test
-scratchTests s choices l trials counters = settingsTests Plain s choices l ++ (scratchFits s trials counters else 9) ∷ []
+scratchTests s choices l trials counters = settingsTests Plain One s choices l ++ (scratchFits s trials counters else 9) ∷ []
 
 module _ (s : Settings) (p : Planes) where
   abbrev pub estimated : List ℕ → Estimated
@@ -88,7 +88,7 @@ module _ (s : Settings) (p : Planes) where
   unfoldable pub estimateCall : List ℕ → Scratch → Outcome Estimated Scratch
   estimateCall φ m =
       outcome
-      (scratchTests s (choicesFit s φ) (lengths p) (lengths (m .trials)) (length (m .counters)) ++ (isPicture s p else 11) ∷ [])
+      (scratchTests s (choicesFit One s φ) (lengths p) (lengths (m .trials)) (length (m .counters)) ++ (isPicture s p else 11) ∷ [])
       (estimated φ)
       (clearedScratch m)
       m
@@ -99,7 +99,7 @@ module _ (s : Settings) (p : Planes) where
   -- The tests of the search, up to 10.
   abbrev pub searchTests : ℕ → Lent → List Test
   searchTests rounds m =
-      scratchTests s (countFits s (length (m .choices))) (lengths p) (lengths (m .scratch .trials)) (length (m .scratch .counters))
+      scratchTests s (countFits One s (length (m .choices))) (lengths p) (lengths (m .scratch .trials)) (length (m .scratch .counters))
       ++ (between 1 4 rounds else 10) ∷ []
 
   unfoldable pub searchCall : ℕ → Lent → Outcome Estimated Lent

@@ -1,16 +1,19 @@
 -- A run's settings: a picture's width, height and depths, and the number of its transform (01, "Planes and steps"; 02, request 7: "The
 -- picture's description holds three depths"). The calls are lent them as numbers and test them. Letters, where a file's head says nothing
 -- else: s stands for the settings, d for the depths, and w, h, b, t for width, height, a depth and the transform by themselves; κ for the
--- form, which says how a step's result is kept; φ for the choices, one filter for each place; p for planes that a step or a call is given,
+-- form, which says how a step's result is kept, and β for the bands, which say where filters change; φ for the choices, one filter for each
+-- place, band after band; p for planes that a step or a call is given,
 -- q for planes that a transform has finished; c for one of the three planes, a for its samples, i for a sample's index, and k for a place's
 -- number.
 use mathlib.Core.Bool.{Bool, true, _&&_}
-use Prim.Native.Nat.{ℕ, _*_, _≤_}
+use Prim.Native.Nat.{ℕ, _+_, _*_, _-_, _/_, _≤_}
 use lib.Dec.{eqb}
 pub use Rattle.stage.specs.declared.Settings.{Settings}
 pub use Rattle.stage.specs.declared.Depths.{Depths}
 pub use Rattle.stage.specs.declared.Form.{Form}
 pub use Rattle.stage.specs.declared.Form.the-variants.{Plain, Wrapped}
+pub use Rattle.stage.specs.declared.Bands.{Bands}
+pub use Rattle.stage.specs.declared.Bands.the-variants.{One, Of}
 use Rattle.stage.specs.Answers.{between}
 use Rattle.stage.specs.Planes.{Plane, C1, C2, C3}
 
@@ -42,6 +45,16 @@ depthsAllowed d = between 2 16 (d .c1) && (between 2 16 (d .c2) && between 2 16 
 abbrev pub depthsSuit : Form → Depths → Bool
 depthsSuit Plain d = true
 depthsSuit Wrapped d = eqb (d .c1) (d .c2) && eqb (d .c2) (d .c3)
+
+-- 02, request 11: "a band height and one set of choices for each band of rows, the last band possibly shorter". `Of n` are bands of n rows
+-- from the top; without a band height there is one band, `One`. How many there are in a picture of height h; and "17 if the band height is 0
+-- or above the picture's", as a test.
+abbrev pub bandCount : (n h : ℕ) → ℕ
+bandCount n h = (h + (n - 1)) / n
+
+abbrev pub bandsSuit : Bands → (h : ℕ) → Bool
+bandsSuit One h = true
+bandsSuit (Of n) h = between 1 h n
 
 -- no depth above 16, as code that computes with depths asks it
 pub record UpTo16 (d : Depths) : Type 0 where

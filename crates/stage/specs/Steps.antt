@@ -71,8 +71,8 @@ abbrev pub places : List Step → ℕ
 places [] = 0
 places (s ∷ l) = termPlaces (s .term) + places l
 
--- What the steps run with. A run has one filter a place, skips null steps and keeps results as its form says (`setup`, Transform.antt).
--- What is free beyond that leaves room for filters that change down the picture.
+-- What the steps run with. A run has one filter a place in all rows or in each band of rows, skips null steps and keeps results as its form says
+-- (`setup`, Transform.antt). What is proved of every setup lets a filter change from sample to sample.
 pub record Setup : Type 0 where
   pub width : ℕ
   pub height : ℕ

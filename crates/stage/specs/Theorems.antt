@@ -9,7 +9,7 @@ use lib.IntN.{ℤ}
 use lib.ListN.{take, drop, set, getD}
 use Rattle.integers.specs.Parts.{In}
 use Rattle.integers.specs.Lists.{AllIn}
-use Rattle.stage.specs.Settings.{Settings, Plain, each, depthAt, Allowed}
+use Rattle.stage.specs.Settings.{Settings, Plain, Bands, One, each, depthAt, Allowed}
 use Rattle.stage.specs.Planes.{Plane, Planes}
 use Rattle.stage.specs.Filter.{mean, filtered}
 use Rattle.stage.specs.Steps.{Setup, steps, places, run, undo, YCoCg-R}
@@ -21,7 +21,7 @@ use Rattle.stage.specs.Search.{countersNeeded, countersCall, winner, sea
 -- Running the steps and undoing them cancel, both ways, on any three planes of whole numbers.
 abbrev pub StepsCancel : Type 0
 StepsCancel =
-    (s : Settings) (φ : List ℕ) (p : Planes) → (untransformed Plain s φ (transformed Plain s φ p) ≡ p) × (transformed Plain s φ (untransformed Plain s φ p) ≡ p)
+    (β : Bands) (s : Settings) (φ : List ℕ) (p : Planes) → (untransformed Plain β s φ (transformed Plain β s φ p) ≡ p) × (transformed Plain β s φ (untransformed Plain β s φ p) ≡ p)
 
 -- A filter keeps a plane's range: the mean for every centre weight and at every border, and so each of the filters.
 abbrev pub MeanKeepsRange : Type 0
@@ -73,13 +73,13 @@ StepsKeepRanges =
 -- "After its second step plane 3 lies in −H to 3H − 2": so do the samples of every picture.
 abbrev pub SecondStepSamples : Type 0
 SecondStepSamples =
-    (s : Settings) (b : ℕ) (φ : List ℕ) (p : Planes) → 2 ≤ b → s .depths ≡ each b → Picture s p
-    → AllIn (2 ^ (b - 1)) (3 * 2 ^ (b - 1) - 2) (run (setup Plain s φ) (take 2 YCoCg-R) p .c3)
+    (β : Bands) (s : Settings) (b : ℕ) (φ : List ℕ) (p : Planes) → 2 ≤ b → s .depths ≡ each b → Picture s p
+    → AllIn (2 ^ (b - 1)) (3 * 2 ^ (b - 1) - 2) (run (setup Plain β s φ) (take 2 YCoCg-R) p .c3)
 
 -- Demand 3's "each of their numbers lies within the range stated for its plane", with the ranges as 01 states them.
 abbrev pub WithinTable : Type 0
 WithinTable =
-    (s : Settings) (b : ℕ) (φ : List ℕ) (p q : Planes) → 2 ≤ b → s .depths ≡ each b → GoesTo Plain s φ p q
+    (β : Bands) (s : Settings) (b : ℕ) (φ : List ℕ) (p q : Planes) → 2 ≤ b → s .depths ≡ each b → GoesTo Plain β s φ p q
     → InRanges (getD (depthTable b) (s .transform) (sampleRanges s)) q
 
 -- Every number met lies within ±2^19: before and after each step of a picture's way forward, and of the way back of planes that
@@ -108,4 +108,4 @@ WinnerWins = (e : List ℕ → ℕ) (φ : List ℕ) (k n : ℕ) → Wins e φ k 
 
 -- The choices that a search leaves pass the test of choices, whatever the estimates.
 abbrev pub SearchedFit : Type 0
-SearchedFit = (s : Settings) (e : List ℕ → ℕ) (rounds : ℕ) → T (choicesFit s (searched e (places (steps (s .transform))) rounds))
+SearchedFit = (s : Settings) (e : List ℕ → ℕ) (rounds : ℕ) → T (choicesFit One s (searched e (places (steps (s .transform))) rounds))

@@ -4,7 +4,7 @@ use mathlib.Core.List.{List, [], _∷_}
 use Prim.Native.Nat.{ℕ}
 use lib.IntN.{ℤ, pos}
 use Rattle.stage.specs.Answers.{number}
-use Rattle.stage.specs.Settings.{each, settingsOf, Plain}
+use Rattle.stage.specs.Settings.{each, settingsOf, Plain, One}
 use Rattle.stage.specs.Planes.{Planes, triple}
 use Rattle.stage.specs.Ranges.{rangeRow, finishedRanges, bounded}
 use Rattle.stage.specs.Transform.{forward, inverse}
@@ -13,7 +13,7 @@ use Rattle.stage.specs.Case.{Value, Case, _gives_, Hold, call, count, ra
 
 -- one pixel at depth b through RDgDb with filters 0
 abbrev one : ℕ → Planes → Value
-one b p = call (forward Plain (settingsOf 1 1 (each b) 2) (0 ∷ 0 ∷ []) p)
+one b p = call (forward Plain One (settingsOf 1 1 (each b) 2) (0 ∷ 0 ∷ []) p)
 
 -- the same sample in all planes, which RDgDb takes to it, 0 and 0
 abbrev grey : ℤ → Planes
@@ -48,15 +48,15 @@ bright = grey (pos 256)
 unfoldable pub planeCases : List Case
 planeCases =
     -- "Halving −25 to −12: rounding down gives −13"
-    (call (forward Plain (settingsOf 1 1 (each 8) 1) (0 ∷ 0 ∷ 0 ∷ 0 ∷ []) (pixel (pos 10) (pos 200) (pos 35)))
+    (call (forward Plain One (settingsOf 1 1 (each 8) 1) (0 ∷ 0 ∷ 0 ∷ 0 ∷ []) (pixel (pos 10) (pos 200) (pos 35)))
     gives accepted (pixel (minus 25) (pos 178) (pos 111)))
-    ∷ (call (inverse Plain (settingsOf 1 1 (each 8) 1) (0 ∷ 0 ∷ 0 ∷ 0 ∷ []) (pixel (minus 25) (pos 178) (pos 111)))
+    ∷ (call (inverse Plain One (settingsOf 1 1 (each 8) 1) (0 ∷ 0 ∷ 0 ∷ 0 ∷ []) (pixel (minus 25) (pos 178) (pos 111)))
     gives accepted (pixel (pos 10) (pos 200) (pos 35)))
     -- "Each filtered value is a place with its own filter", at a size whose width is not its height; and back
-    ∷ (call (forward Plain (settingsOf 3 2 (each 8) 0) (1 ∷ 2 ∷ 3 ∷ 4 ∷ []) six) gives accepted sixRCT)
-    ∷ (call (inverse Plain (settingsOf 3 2 (each 8) 0) (1 ∷ 2 ∷ 3 ∷ 4 ∷ []) sixRCT) gives accepted six)
-    ∷ (call (forward Plain (settingsOf 2 3 (each 8) 1) (5 ∷ 1 ∷ 2 ∷ 12 ∷ []) six) gives accepted sixYCoCg-R)
-    ∷ (call (inverse Plain (settingsOf 2 3 (each 8) 1) (5 ∷ 1 ∷ 2 ∷ 12 ∷ []) sixYCoCg-R) gives accepted six)
+    ∷ (call (forward Plain One (settingsOf 3 2 (each 8) 0) (1 ∷ 2 ∷ 3 ∷ 4 ∷ []) six) gives accepted sixRCT)
+    ∷ (call (inverse Plain One (settingsOf 3 2 (each 8) 0) (1 ∷ 2 ∷ 3 ∷ 4 ∷ []) sixRCT) gives accepted six)
+    ∷ (call (forward Plain One (settingsOf 2 3 (each 8) 1) (5 ∷ 1 ∷ 2 ∷ 12 ∷ []) six) gives accepted sixYCoCg-R)
+    ∷ (call (inverse Plain One (settingsOf 2 3 (each 8) 1) (5 ∷ 1 ∷ 2 ∷ 12 ∷ []) sixYCoCg-R) gives accepted six)
     -- "Values at depth 8 in brackets": RCT, plane 2 "−128 to 382"
     ∷ (ranges (finishedRanges (settingsOf 1 1 (each 8) 0)) gives ranges (rangeRow 255 255 128 382 255 255))
     -- YCoCg-R, plane 2 "−382 to 383", plane 3 "−319 to 573"
@@ -101,12 +101,12 @@ nullCases =
 unfoldable pub limitCases : List Case
 limitCases =
     -- "Width 8,192 passes, 8,193 gives 2": what passes is refused later, for its length
-    (call (forward Plain (settingsOf 8192 1 (each 8) 2) (0 ∷ 0 ∷ []) bright) gives refuses 8 bright)
-    ∷ (call (forward Plain (settingsOf 1 8192 (each 8) 2) (0 ∷ 0 ∷ []) bright) gives refuses 8 bright)
-    ∷ (call (forward Plain (settingsOf 8193 1 (each 8) 2) (0 ∷ 0 ∷ []) bright) gives refuses 2 bright)
-    ∷ (call (forward Plain (settingsOf 1 8193 (each 8) 2) (0 ∷ 0 ∷ []) bright) gives refuses 2 bright)
-    ∷ (call (forward Plain (settingsOf 0 1 (each 8) 2) (0 ∷ 0 ∷ []) bright) gives refuses 2 bright)
-    ∷ (call (forward Plain (settingsOf 1 0 (each 8) 2) (0 ∷ 0 ∷ []) bright) gives refuses 2 bright)
+    (call (forward Plain One (settingsOf 8192 1 (each 8) 2) (0 ∷ 0 ∷ []) bright) gives refuses 8 bright)
+    ∷ (call (forward Plain One (settingsOf 1 8192 (each 8) 2) (0 ∷ 0 ∷ []) bright) gives refuses 8 bright)
+    ∷ (call (forward Plain One (settingsOf 8193 1 (each 8) 2) (0 ∷ 0 ∷ []) bright) gives refuses 2 bright)
+    ∷ (call (forward Plain One (settingsOf 1 8193 (each 8) 2) (0 ∷ 0 ∷ []) bright) gives refuses 2 bright)
+    ∷ (call (forward Plain One (settingsOf 0 1 (each 8) 2) (0 ∷ 0 ∷ []) bright) gives refuses 2 bright)
+    ∷ (call (forward Plain One (settingsOf 1 0 (each 8) 2) (0 ∷ 0 ∷ []) bright) gives refuses 2 bright)
     -- "Depth 2 and 16 pass, 1 and 17 give 5"
     ∷ (one 2 (grey (pos 3)) gives accepted (pixel (pos 3) (pos 0) (pos 0)))
     ∷ (one 16 (grey (pos 65535)) gives accepted (pixel (pos 65535) (pos 0) (pos 0)))
@@ -127,26 +127,26 @@ limitCases =
 -- "Tested in that order": a call that every test refuses, and one test fewer each time
 unfoldable pub orderCases : List Case
 orderCases =
-    (call (forward Plain (settingsOf 0 1 (each 1) 4) (13 ∷ []) bright) gives refuses 2 bright)
-    ∷ (call (forward Plain (settingsOf 2 1 (each 1) 4) (13 ∷ []) bright) gives refuses 5 bright)
-    ∷ (call (forward Plain (settingsOf 2 1 (each 8) 4) (13 ∷ []) bright) gives refuses 6 bright)
+    (call (forward Plain One (settingsOf 0 1 (each 1) 4) (13 ∷ []) bright) gives refuses 2 bright)
+    ∷ (call (forward Plain One (settingsOf 2 1 (each 1) 4) (13 ∷ []) bright) gives refuses 5 bright)
+    ∷ (call (forward Plain One (settingsOf 2 1 (each 8) 4) (13 ∷ []) bright) gives refuses 6 bright)
     -- "7 wrong number of choices, or one above 12"
-    ∷ (call (forward Plain (settingsOf 2 1 (each 8) 2) (13 ∷ []) bright) gives refuses 7 bright)
-    ∷ (call (forward Plain (settingsOf 2 1 (each 8) 2) (0 ∷ 0 ∷ 0 ∷ []) bright) gives refuses 7 bright)
-    ∷ (call (forward Plain (settingsOf 2 1 (each 8) 2) (0 ∷ 13 ∷ []) bright) gives refuses 7 bright)
-    ∷ (call (forward Plain (settingsOf 2 1 (each 8) 2) (0 ∷ 12 ∷ []) bright) gives refuses 8 bright)
-    ∷ (call (forward Plain (settingsOf 1 1 (each 8) 2) (0 ∷ 12 ∷ []) bright) gives refuses 11 bright)
+    ∷ (call (forward Plain One (settingsOf 2 1 (each 8) 2) (13 ∷ []) bright) gives refuses 7 bright)
+    ∷ (call (forward Plain One (settingsOf 2 1 (each 8) 2) (0 ∷ 0 ∷ 0 ∷ []) bright) gives refuses 7 bright)
+    ∷ (call (forward Plain One (settingsOf 2 1 (each 8) 2) (0 ∷ 13 ∷ []) bright) gives refuses 7 bright)
+    ∷ (call (forward Plain One (settingsOf 2 1 (each 8) 2) (0 ∷ 12 ∷ []) bright) gives refuses 8 bright)
+    ∷ (call (forward Plain One (settingsOf 1 1 (each 8) 2) (0 ∷ 12 ∷ []) bright) gives refuses 11 bright)
     -- "gives its number alone", and C callers see 0 for success
-    ∷ (count (number (forward Plain (settingsOf 1 1 (each 8) 2) (0 ∷ 12 ∷ []) bright .reply)) gives count 11)
-    ∷ (count (number (forward Plain (settingsOf 1 1 (each 8) 2) (0 ∷ 12 ∷ []) (grey (pos 0)) .reply)) gives count 0)
+    ∷ (count (number (forward Plain One (settingsOf 1 1 (each 8) 2) (0 ∷ 12 ∷ []) bright .reply)) gives count 11)
+    ∷ (count (number (forward Plain One (settingsOf 1 1 (each 8) 2) (0 ∷ 12 ∷ []) (grey (pos 0)) .reply)) gives count 0)
     -- the inverse
-    ∷ (call (inverse Plain (settingsOf 0 1 (each 1) 4) (13 ∷ []) bright) gives refuses 2 bright)
-    ∷ (call (inverse Plain (settingsOf 2 1 (each 1) 4) (13 ∷ []) bright) gives refuses 5 bright)
-    ∷ (call (inverse Plain (settingsOf 2 1 (each 8) 4) (13 ∷ []) bright) gives refuses 6 bright)
-    ∷ (call (inverse Plain (settingsOf 2 1 (each 8) 2) (13 ∷ []) bright) gives refuses 7 bright)
-    ∷ (call (inverse Plain (settingsOf 2 1 (each 8) 2) (0 ∷ 13 ∷ []) bright) gives refuses 7 bright)
-    ∷ (call (inverse Plain (settingsOf 2 1 (each 8) 2) (0 ∷ 12 ∷ []) bright) gives refuses 8 bright)
-    ∷ (call (inverse Plain (settingsOf 1 1 (each 8) 2) (0 ∷ 12 ∷ []) bright) gives refuses 12 bright)
+    ∷ (call (inverse Plain One (settingsOf 0 1 (each 1) 4) (13 ∷ []) bright) gives refuses 2 bright)
+    ∷ (call (inverse Plain One (settingsOf 2 1 (each 1) 4) (13 ∷ []) bright) gives refuses 5 bright)
+    ∷ (call (inverse Plain One (settingsOf 2 1 (each 8) 4) (13 ∷ []) bright) gives refuses 6 bright)
+    ∷ (call (inverse Plain One (settingsOf 2 1 (each 8) 2) (13 ∷ []) bright) gives refuses 7 bright)
+    ∷ (call (inverse Plain One (settingsOf 2 1 (each 8) 2) (0 ∷ 13 ∷ []) bright) gives refuses 7 bright)
+    ∷ (call (inverse Plain One (settingsOf 2 1 (each 8) 2) (0 ∷ 12 ∷ []) bright) gives refuses 8 bright)
+    ∷ (call (inverse Plain One (settingsOf 1 1 (each 8) 2) (0 ∷ 12 ∷ []) bright) gives refuses 12 bright)
     ∷ []
 
 abbrev pub TransformCasesHold : Type 0

@@ -10,7 +10,7 @@ use mir.Syntax.{w32}
 use mir.Val.{SFits}
 use Rattle.integers.specs.Parts.{In}
 use Rattle.integers.specs.Lists.{AllIn}
-use Rattle.stage.specs.Settings.{Settings, Form, Plain, each, settingsOf, depthAt, depthsSuit}
+use Rattle.stage.specs.Settings.{Settings, Form, Plain, Bands, One, each, settingsOf, depthAt, depthsSuit}
 use Rattle.stage.specs.Planes.{Plane, Planes, get}
 use Rattle.stage.specs.Filter.{weight, weightSum, weightedSum, windowSample, roundedSum}
 use Rattle.stage.specs.Steps.{Setup, steps, run, undo}
@@ -42,14 +42,14 @@ pub record RunSumsFit (bits : ℕ) (s : Settings) (σ : Setup) : Type 0 where
 abbrev pub WindowFits : Type 0
 WindowFits = (w h : ℕ) (a : List ℤ) → AllIn (2 ^ 19) (2 ^ 19) a → WindowSumsFit 32 w h a
 
--- The request: for every transform and all depths, in every setup that keeps ranges, and so in the calls of both forms with every choice of
--- filters.
+-- The request: for every transform and all depths, in every setup that keeps ranges, and so in the calls of both forms, in all bands, with every
+-- choice of filters.
 pub record SumsIn32Bits : Type 0 where
   pub every : (s : Settings) (σ : Setup) → ((c : Plane) → depthAt s c ≤ 16) → KeepsRanges (sampleRanges s) σ → RunSumsFit 32 s σ
-  pub calls : (κ : Form) (s : Settings) (φ : List ℕ) → ((c : Plane) → depthAt s c ≤ 16) → T (depthsSuit κ (s .depths)) → RunSumsFit 32 s (setup κ s φ)
+  pub calls : (κ : Form) (β : Bands) (s : Settings) (φ : List ℕ) → ((c : Plane) → depthAt s c ≤ 16) → T (depthsSuit κ (s .depths)) → RunSumsFit 32 s (setup κ β s φ)
 
 -- 29 bits are too few. Three planes of one number each, −65,535, −98,302 and 147,453, lie within the ranges of YCoCg-R at depth 16. With
 -- filters 0 plane 3 is 229,372 throughout before the last step back, which filters it: for centre weight 1,024 a whole window there has
 -- 2 × S + W = 473,424,840, and 29 signed bits end at 268,435,455.
 abbrev pub BitsTooFew : Type 0
-BitsTooFew = let s = settingsOf 3 3 (each 16) 1 in RunSumsFit 29 s (setup Plain s (0 ∷ 0 ∷ 0 ∷ 0 ∷ [])) → ⊥
+BitsTooFew = let s = settingsOf 3 3 (each 16) 1 in RunSumsFit 29 s (setup Plain One s (0 ∷ 0 ∷ 0 ∷ 0 ∷ [])) → ⊥

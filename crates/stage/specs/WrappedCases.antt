@@ -3,17 +3,17 @@ use mathlib.Core.List.{List, [], _∷_}
 use Prim.Native.Nat.{ℕ}
 use lib.IntN.{pos}
 use Rattle.integers.specs.Parts.{floorMod}
-use Rattle.stage.specs.Settings.{Depths, depthsOf, each, settingsOf, Wrapped}
+use Rattle.stage.specs.Settings.{Depths, depthsOf, each, settingsOf, Wrapped, One}
 use Rattle.stage.specs.Planes.{Planes, triple}
 use Rattle.stage.specs.Transform.{forward, inverse}
 use Rattle.stage.specs.Case.{Value, Case, _gives_, Hold, call, samples, minus, pixel, accepted, refuses}
 
 -- one pixel at depth b through transform t with the filters φ, and back
 abbrev there : (b t : ℕ) → List ℕ → Planes → Value
-there b t φ p = call (forward Wrapped (settingsOf 1 1 (each b) t) φ p)
+there b t φ p = call (forward Wrapped One (settingsOf 1 1 (each b) t) φ p)
 
 abbrev back : (b t : ℕ) → List ℕ → Planes → Value
-back b t φ q = call (inverse Wrapped (settingsOf 1 1 (each b) t) φ q)
+back b t φ q = call (inverse Wrapped One (settingsOf 1 1 (each b) t) φ q)
 
 -- "The pixel 10, 200, 60"
 abbrev one : Planes
@@ -68,8 +68,8 @@ twoLDgEb = triple (pos 181 ∷ pos 191 ∷ []) (pos 171 ∷ pos 170 ∷ []) (pos
 
 unfoldable pub keptCases : List Case
 keptCases =
-    (call (forward Wrapped (settingsOf 2 1 (each 8) 3) (1 ∷ 1 ∷ 1 ∷ []) two) gives accepted twoLDgEb)
-    ∷ (call (inverse Wrapped (settingsOf 2 1 (each 8) 3) (1 ∷ 1 ∷ 1 ∷ []) twoLDgEb) gives accepted two)
+    (call (forward Wrapped One (settingsOf 2 1 (each 8) 3) (1 ∷ 1 ∷ 1 ∷ []) two) gives accepted twoLDgEb)
+    ∷ (call (inverse Wrapped One (settingsOf 2 1 (each 8) 3) (1 ∷ 1 ∷ 1 ∷ []) twoLDgEb) gives accepted two)
     ∷ []
 
 -- "16 if the three depths differ, after 5": a call that every test refuses, and one test fewer each time, both ways
@@ -77,10 +77,10 @@ abbrev bright : Planes
 bright = pixel (pos 256) (pos 0) (pos 0)
 
 abbrev refusal : (w t : ℕ) → Depths → List ℕ → Planes → Value
-refusal w t d φ p = call (forward Wrapped (settingsOf w 1 d t) φ p)
+refusal w t d φ p = call (forward Wrapped One (settingsOf w 1 d t) φ p)
 
 abbrev refusalBack : (w t : ℕ) → Depths → List ℕ → Planes → Value
-refusalBack w t d φ p = call (inverse Wrapped (settingsOf w 1 d t) φ p)
+refusalBack w t d φ p = call (inverse Wrapped One (settingsOf w 1 d t) φ p)
 
 unfoldable pub refusalCases : List Case
 refusalCases =

@@ -3,7 +3,7 @@
 ghost use mathlib.Core.Path.{_≡_};
 ghost use Rattle.stage.specs.Answers.{between, sized};
 ghost use Rattle.stage.specs.Planes.{triple, samePlane};
-ghost use Rattle.stage.specs.Settings.{each, depthsAllowed, depthsSuit};
+ghost use Rattle.stage.specs.Settings.{each, depthsAllowed, depthsSuit, bandsSuit};
 ghost use Rattle.stage.specs.Transform.{allEqual};
 
 pub enum Plane {
@@ -66,6 +66,13 @@ pub enum Form {
     Wrapped,
 }
 
+// How a picture's rows take their filters: all from one set of choices, or each band of so many rows from its own. The last band may be
+// shorter.
+pub enum Bands {
+    One,
+    Of(u32),
+}
+
 // −below to above
 pub struct Range {
     pub below: u32,
@@ -104,6 +111,16 @@ pub fn depths_suit(form: Form, d: Depths) -> bool
     match form {
         Form::Plain => true,
         Form::Wrapped => (d.c1 == d.c2) & (d.c2 == d.c3),
+    }
+}
+
+// Whether a picture has such bands: not of no row, nor of more than there are.
+pub fn bands_suit(bands: Bands, height: u32) -> bool
+    ensures { λ r. ⌜ r ≡ bandsSuit bands height ⌝ }
+{
+    match bands {
+        Bands::One => true,
+        Bands::Of(n) => (1 <= n) & (n <= height),
     }
 }
 

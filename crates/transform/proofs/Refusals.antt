@@ -1,14 +1,16 @@
 -- The settings' tests in their order.
-use mathlib.Core.Path.{_≡_, _∙_}
-use mathlib.Core.Bool.{Bool, false, _&&_}
-use mathlib.Core.List.{List, [], _∷_}
-use Prim.Native.Nat.{ℕ, _+_, _≤_, _<_}
+use mathlib.Core.Path.{_≡_, sym, ap, _∙_}
+use mathlib.Core.Bool.{Bool, false, cond, _&&_}
+use mathlib.Core.List.{List}
+use Prim.Native.Nat.{ℕ, zero, suc, _+_, _-_, _≤_, _<_}
+use native.Mathlib.Nat.{div-zero}
 use native.Mathlib.Numerals.{add-one}
-use lib.Dec.{leb}
+use lib.Dec.{leb, lit≤}
 use lib.ListN.{length, getD, drop}
 use lib.Seq.{drop-cons}
 use borrow.Author.Tests.{le-leb, lt-leb}
-use Rattle.stage.specs.Answers.{_else_, refusal}
+use Rattle.stage.specs.Settings.{bandCount}
+use Rattle.stage.specs.Steps.{steps, places}
 use Rattle.stage.specs.Transform.{allFilters}
 
 -- one choice after another
@@ -21,7 +23,18 @@ choice-above l i r h e g = next-choice l i h ∙ rw (lt-leb (getD l i 0) 12 (rw 
 pub choice-within : (l : List ℕ) (i r : ℕ) → i < length l → r ≡ getD l i 0 → r ≤ 12 → allFilters (drop i l) ≡ allFilters (drop (i + 1) l)
 choice-within l i r h e g = next-choice l i h ∙ rw (le-leb (getD l i 0) 12 (rw e at g))
 
--- the tests as the code made them
-pub first-same : {a a' b b' s s' e e' : Bool} (c d : Bool) → a ≡ a' → b ≡ b' → s ≡ s' → e ≡ e'
-    → refusal ((a else 2) ∷ (b else 5) ∷ (s else 16) ∷ (c else 6) ∷ (d else 7) ∷ (e else 8) ∷ []) ≡ refusal ((a' else 2) ∷ (b' else 5) ∷ (s' else 16) ∷ (c else 6) ∷ (d else 7) ∷ (e' else 8) ∷ [])
-first-same c d p q r t = rw (p, q, r, t)
+-- a test as the code made it, before later tests that gave n
+pub test-made : {made is : Bool} {n later r : ℕ} (m : ℕ) → made ≡ is → n ≡ later → r ≡ cond made n m → r ≡ cond is later m
+test-made m f g e = e ∙ (λ o. cond (f o) (g o) m)
+
+-- no transform has more than four places
+pub places-few : (t : ℕ) → places (steps t) ≤ 4
+places-few zero = lit≤ tt
+places-few (suc zero) = lit≤ tt
+places-few (suc (suc zero)) = lit≤ tt
+places-few (suc (suc (suc zero))) = lit≤ tt
+places-few (suc (suc (suc (suc t)))) = lit≤ tt
+
+-- bands of no row are none
+pub no-bands : (n h : ℕ) → n ≡ 0 → 0 ≡ bandCount n h
+no-bands n h e = sym (ap (λ (m : ℕ). bandCount m h) e ∙ div-zero (h + (0 - 1)))

@@ -4,23 +4,23 @@ use mathlib.Core.Logic.{_↔_}
 use mathlib.Core.List.{List}
 use Prim.Native.Nat.{ℕ}
 use native.Mathlib.Omega.{arith}
-use lib.Dec.{T}
 use Rattle.stage.specs.declared.Answer.{Answer}
 use Rattle.stage.specs.declared.Answer.the-variants.{Done, Refused}
 use Rattle.stage.specs.declared.Settings.{Settings}
 use Rattle.stage.specs.declared.Form.{Form}
 use Rattle.stage.specs.declared.Form.the-variants.{Wrapped}
+use Rattle.stage.specs.declared.Bands.{Bands}
 use Rattle.stage.specs.Answers.{done, refused, Outcome, replyOf, outcomeOf}
-use Rattle.stage.specs.Settings.{depthsSuit, Allowed}
 use Rattle.stage.specs.Planes.{Planes}
 use Rattle.stage.specs.Ranges.{sampleRanges, InRanges}
-use Rattle.stage.specs.Transform.{choicesFit, transformed, untransformed, inverse}
+use Rattle.stage.specs.Transform.{transformed, untransformed, inverse}
 use Rattle.stage.specs.Demand3.{GoesTo, accepted, Demand3}
 use Rattle.stage.proofs.Forms.{goes-within}
 use Rattle.stage.proofs.Demand3.{withinRanges-iff, leads, forward-iff, inverse-iff, demand3, calls-inverse}
 use Rattle.stage.proofs.WrappedForms.{wrapped-refuses-outside}
 use Rattle.stage.proofs.NullSteps.{nulls-leave-pictures}
-use Rattle.transform.specs.Calls.{ForwardThenInverse, InverseThenForward, CallsDemand3, CallsMeetDemand3, CallsLeaveNulls, NeverWidens, CallsNeverWiden}
+use Rattle.stage.proofs.BandedForms.{bands-as-high}
+use Rattle.transform.specs.Calls.{ForwardThenInverse, InverseThenForward, CallsDemand3, CallsMeetDemand3, CallsLeaveNulls, BandsAsHighAsPicture, NeverWidens, CallsNeverWiden}
 
 pub done-is : (r : Answer) → replyOf r ≡ done tt → r ≡ Done
 done-is Done e = refl
@@ -39,22 +39,22 @@ module _ (r : Answer) (u : Planes) where
   refusal-is {n} e = (refused-is r n (ap (λ (o : Outcome (Unit {0}) Planes). o .reply) e), ap (λ (o : Outcome (Unit {0}) Planes). o .memory) e)
 
 pub forward-then-inverse : ForwardThenInverse
-forward-then-inverse κ s φ p q u r f i = accepted-is r u (i ∙ calls-inverse κ s φ p q .0 (sym f))
+forward-then-inverse κ β s φ p q u r f i = accepted-is r u (i ∙ calls-inverse κ β s φ p q .0 (sym f))
 
 pub inverse-then-forward : InverseThenForward
-inverse-then-forward κ s φ q p u r i f = accepted-is r u (f ∙ calls-inverse κ s φ p q .1 (sym i))
+inverse-then-forward κ β s φ q p u r i f = accepted-is r u (f ∙ calls-inverse κ β s φ p q .1 (sym i))
 
-module _ (κ : Form) (s : Settings) (φ : List ℕ) (q : Planes) (d : Demand3 κ s φ q) (r : Answer) (u : Planes) (e : outcomeOf r u ≡ inverse κ s φ q) where
-  goes : r ≡ Done → (p : Planes) × GoesTo κ s φ p q
+module _ (κ : Form) (β : Bands) (s : Settings) (φ : List ℕ) (q : Planes) (d : Demand3 κ β s φ q) (r : Answer) (u : Planes) (e : outcomeOf r u ≡ inverse κ β s φ q) where
+  goes : r ≡ Done → (p : Planes) × GoesTo κ β s φ p q
   goes i = d .accepts .0 (sym (ap (λ (o : Outcome (Unit {0}) Planes). o .reply) e) ∙ ap replyOf i)
 
-  leaves : (p : Planes) → GoesTo κ s φ p q → (r ≡ Done) × (u ≡ p)
+  leaves : (p : Planes) → GoesTo κ β s φ p q → (r ≡ Done) × (u ≡ p)
   leaves p g = accepted-is r u (e ∙ d .leaves p g)
 
-  picture : r ≡ Done → GoesTo κ s φ u q
-  picture i = let g = goes i in subst (λ (p : Planes). GoesTo κ s φ p q) (sym (leaves (g .0) (g .1) .1)) (g .1)
+  picture : r ≡ Done → GoesTo κ β s φ u q
+  picture i = let g = goes i in subst (λ (p : Planes). GoesTo κ β s φ p q) (sym (leaves (g .0) (g .1) .1)) (g .1)
 
-  meets : CallsDemand3 κ s φ q r u
+  meets : CallsDemand3 κ β s φ q r u
   meets = record {
     accepts = (goes, λ g. leaves (g .0) (g .1) .0);
     picture = picture;
@@ -65,10 +65,23 @@ module _ (κ : Form) (s : Settings) (φ : List ℕ) (q : Planes) (d : Demand3 κ
   }
 
 pub calls-meet-demand3 : CallsMeetDemand3
-calls-meet-demand3 κ s φ a d f q z r u e = meets κ s φ q (demand3 κ s φ ((a, d), f) q z) r u e
+calls-meet-demand3 κ β s φ f q z r u e = meets κ β s φ q (demand3 κ β s φ f q z) r u e
 
 pub calls-leave-nulls : CallsLeaveNulls
-calls-leave-nulls κ s p a d h r q = let n = nulls-leave-pictures κ s p a d h in (λ f. accepted-is r q (f ∙ n .there), λ i. accepted-is r q (i ∙ n .back))
+calls-leave-nulls κ β s p a d b h r q = let n = nulls-leave-pictures κ β s p a d b h in (λ f. accepted-is r q (f ∙ n .there), λ i. accepted-is r q (i ∙ n .back))
+
+-- two calls that have one outcome
+pub reply-is : (r r′ : Answer) → replyOf r ≡ replyOf r′ → r ≡ r′
+reply-is r Done e = done-is r e
+reply-is r (Refused n) e = refused-is r n e
+
+same-outcome : {r r′ : Answer} {q q′ : Planes} → outcomeOf r q ≡ outcomeOf r′ q′ → (r ≡ r′) × (q ≡ q′)
+same-outcome {r} {r′} e = (reply-is r r′ (ap (λ (o : Outcome (Unit {0}) Planes). o .reply) e), ap (λ (o : Outcome (Unit {0}) Planes). o .memory) e)
+
+pub bands-as-high-as-picture : BandsAsHighAsPicture
+bands-as-high-as-picture κ s φ p r r′ q q′ =
+    let same = bands-as-high κ s φ p in
+    (λ f g. same-outcome (f ∙ same .there ∙ sym g), λ f g. same-outcome (f ∙ same .back ∙ sym g))
 
 -- ---- the wrapped calls
 -- a call o, lent p, that refuses p with 11 exactly where it is outside 0 to M, and otherwise leaves u, within 0 to M
@@ -85,13 +98,12 @@ module _ (s : Settings) {p u : Planes} {o : Outcome (Unit {0}) Planes} (refuses 
   }
 
 pub calls-never-widen : CallsNeverWiden
-calls-never-widen s φ a d f p z r q =
-    let refuses = wrapped-refuses-outside s φ a d f p z in
-    let fit : (Allowed s × T (depthsSuit Wrapped (s .depths))) × T (choicesFit s φ) = ((a, d), f) in
-    let to : InRanges (sampleRanges s) p → GoesTo Wrapped s φ p (transformed Wrapped s φ p) =
+calls-never-widen β s φ fit p z r q =
+    let refuses = wrapped-refuses-outside β s φ fit p z in
+    let to : InRanges (sampleRanges s) p → GoesTo Wrapped β s φ p (transformed Wrapped β s φ p) =
     λ i. record { picture = record { size = z; samples = i }; goes = refl } in
-    let from : InRanges (sampleRanges s) p → GoesTo Wrapped s φ (untransformed Wrapped s φ p) p =
-    λ i. leads Wrapped s φ p d z (withinRanges-iff (sampleRanges s) p .1 i) in (
-      never-widens s (refuses .there) (λ i. (forward-iff Wrapped s φ p _ .1 (fit, to i), goes-within Wrapped s φ p _ d (to i))) r q,
-      never-widens s (refuses .back) (λ i. (inverse-iff Wrapped s φ _ p .1 (fit, from i), from i .picture .samples)) r q,
+    let from : InRanges (sampleRanges s) p → GoesTo Wrapped β s φ (untransformed Wrapped β s φ p) p =
+    λ i. leads Wrapped β s φ p (fit .depths) z (withinRanges-iff (sampleRanges s) p .1 i) in (
+      never-widens s (refuses .there) (λ i. (forward-iff Wrapped β s φ p _ .1 (fit, to i), goes-within Wrapped β s φ p _ (fit .depths) (to i))) r q,
+      never-widens s (refuses .back) (λ i. (inverse-iff Wrapped β s φ _ p .1 (fit, from i), from i .picture .samples)) r q,
     )

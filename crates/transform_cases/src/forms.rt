@@ -1,5 +1,6 @@
 // The calls of both forms, each way.
 use stage::Answer;
+use stage::Bands;
 use stage::Form;
 use stage::Settings;
 use transform::forward;
@@ -9,6 +10,7 @@ use transform::inverse_wrapped;
 
 pub(crate) fn there(
     form: Form,
+    bands: Bands,
     s: Settings,
     choices: &[u8],
     c1: &mut [i32],
@@ -16,13 +18,14 @@ pub(crate) fn there(
     c3: &mut [i32],
 ) -> Answer {
     match form {
-        Form::Plain => forward(s, choices, c1, c2, c3),
-        Form::Wrapped => forward_wrapped(s, choices, c1, c2, c3),
+        Form::Plain => forward(s, bands, choices, c1, c2, c3),
+        Form::Wrapped => forward_wrapped(s, bands, choices, c1, c2, c3),
     }
 }
 
 pub(crate) fn back(
     form: Form,
+    bands: Bands,
     s: Settings,
     choices: &[u8],
     c1: &mut [i32],
@@ -30,7 +33,7 @@ pub(crate) fn back(
     c3: &mut [i32],
 ) -> Answer {
     match form {
-        Form::Plain => inverse(s, choices, c1, c2, c3),
-        Form::Wrapped => inverse_wrapped(s, choices, c1, c2, c3),
+        Form::Plain => inverse(s, bands, choices, c1, c2, c3),
+        Form::Wrapped => inverse_wrapped(s, bands, choices, c1, c2, c3),
     }
 }

@@ -1,4 +1,4 @@
-// A generated picture through the calls of a form, and whether it comes back.
+// A generated picture through the calls of a form, in bands or not, and whether it comes back.
 ghost use Rattle.stage.specs.Settings.{UpTo16};
 use crate::forms::back;
 use crate::forms::there;
@@ -7,6 +7,7 @@ use crate::text::print_planes;
 use case_pictures::is_filled;
 use case_pictures::levels;
 use case_text::print;
+use stage::Bands;
 use stage::Depths;
 use stage::Form;
 use stage::Settings;
@@ -33,8 +34,16 @@ pub(crate) fn print_compared(p: Generated, c1: &[i32], c2: &[i32], c3: &[i32])
     }
 }
 
-fn run(form: Form, s: Settings, choices: &[u8], c1: &mut [i32], c2: &mut [i32], c3: &mut [i32]) {
-    let a = there(form, s, choices, c1, c2, c3);
+fn run(
+    form: Form,
+    bands: Bands,
+    s: Settings,
+    choices: &[u8],
+    c1: &mut [i32],
+    c2: &mut [i32],
+    c3: &mut [i32],
+) {
+    let a = there(form, bands, s, choices, c1, c2, c3);
     print_answer(b"forward", a);
     print_planes(c1, c2, c3);
     print(b"\n");
@@ -42,6 +51,7 @@ fn run(form: Form, s: Settings, choices: &[u8], c1: &mut [i32], c2: &mut [i32], 
 
 pub(crate) fn undo(
     form: Form,
+    bands: Bands,
     s: Settings,
     p: Generated,
     choices: &[u8],
@@ -51,13 +61,14 @@ pub(crate) fn undo(
 )
     requires { ⌜ UpTo16 (p .depths) ⌝ }
 {
-    let a = back(form, s, choices, c1, c2, c3);
+    let a = back(form, bands, s, choices, c1, c2, c3);
     print_answer(b"inverse", a);
     print_compared(p, c1, c2, c3);
 }
 
 pub(crate) fn there_and_back(
     form: Form,
+    bands: Bands,
     s: Settings,
     p: Generated,
     choices: &[u8],
@@ -67,6 +78,6 @@ pub(crate) fn there_and_back(
 )
     requires { ⌜ UpTo16 (p .depths) ⌝ }
 {
-    run(form, s, choices, c1, c2, c3);
-    undo(form, s, p, choices, c1, c2, c3);
+    run(form, bands, s, choices, c1, c2, c3);
+    undo(form, bands, s, p, choices, c1, c2, c3);
 }

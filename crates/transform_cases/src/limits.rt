@@ -6,6 +6,7 @@ use crate::text::print_choices;
 use crate::text::print_form;
 use crate::text::print_planes;
 use case_text::print;
+use stage::Bands;
 use stage::Depths;
 use stage::Form;
 use stage::Settings;
@@ -26,8 +27,11 @@ fn answers_in(form: Form, width: u32, height: u32, c1: &mut [i32], c2: &mut [i32
     let choices = [1u8; 4];
     print_choices(s, &choices);
     print_form(form);
-    print_answer(b" forward", there(form, s, &choices, c1, c2, c3));
-    print_answer(b" inverse", back(form, s, &choices, c1, c2, c3));
+    print_answer(
+        b" forward",
+        there(form, Bands::One, s, &choices, c1, c2, c3),
+    );
+    print_answer(b" inverse", back(form, Bands::One, s, &choices, c1, c2, c3));
     print(b"\n");
 }
 
@@ -62,10 +66,10 @@ fn pixel_in(form: Form, s: Settings, choices: &[u8], red: i32, green: i32, blue:
     print(b" planes");
     print_planes(&c1, &c2, &c3);
     print_form(form);
-    let a = there(form, s, choices, &mut c1, &mut c2, &mut c3);
+    let a = there(form, Bands::One, s, choices, &mut c1, &mut c2, &mut c3);
     print_answer(b" forward", a);
     print_planes(&c1, &c2, &c3);
-    let b = back(form, s, choices, &mut c1, &mut c2, &mut c3);
+    let b = back(form, Bands::One, s, choices, &mut c1, &mut c2, &mut c3);
     print_answer(b" inverse", b);
     print_planes(&c1, &c2, &c3);
     print(b"\n");

@@ -1,10 +1,16 @@
-// Generated pictures of small sizes over all transforms, with depths of 2 to 16 beside each other and each filter at each place.
+// Generated pictures of small sizes over all transforms, with depths of 2 to 16 beside each other and each filter at each place, each with one set
+// of choices and then in bands.
 ghost use Prim.Native.Nat.{_≤_};
 ghost use Rattle.stage.specs.Settings.{UpTo16};
+use crate::bands::band_count;
+use crate::bands::band_rows;
+use crate::bands::places;
+use crate::bands::sets;
 use crate::generated::Generated;
 use crate::generated::there_and_back;
 use crate::generated::undo;
 use crate::text::print_answer;
+use crate::text::print_bands;
 use crate::text::print_choices;
 use crate::text::print_planes;
 use crate::wrapped::wrap;
@@ -15,6 +21,7 @@ use case_text::print;
 use case_text::print_field;
 use case_text::print_sample;
 use stage::Answer;
+use stage::Bands;
 use stage::Depths;
 use stage::Form;
 use stage::Settings;
@@ -41,21 +48,29 @@ fn replace_in(c1: &mut [i32], c2: &mut [i32], c3: &mut [i32], plane: u32, i: usi
 }
 
 // The inverse of damaged planes. What it accepts, as another picture goes there, is printed and run again.
-fn undo_damaged(s: Settings, choices: &[u8], c1: &mut [i32], c2: &mut [i32], c3: &mut [i32]) {
-    let a = inverse(s, choices, c1, c2, c3);
+fn undo_damaged(
+    bands: Bands,
+    s: Settings,
+    choices: &[u8],
+    c1: &mut [i32],
+    c2: &mut [i32],
+    c3: &mut [i32],
+) {
+    let a = inverse(s, bands, choices, c1, c2, c3);
     print_answer(b" inverse", a);
     let Answer::Done = a else {
         print(b"\n");
         return;
     };
     print_planes(c1, c2, c3);
-    let b = forward(s, choices, c1, c2, c3);
+    let b = forward(s, bands, choices, c1, c2, c3);
     print_answer(b" forward", b);
     print(b"\n");
 }
 
 // Forward again; then the middle number of a finished plane is replaced by z, and put back when the inverse was tried.
 fn damage(
+    bands: Bands,
     s: Settings,
     choices: &[u8],
     c1: &mut [i32],
@@ -64,13 +79,13 @@ fn damage(
     plane: u32,
     z: i32,
 ) {
-    forward(s, choices, c1, c2, c3);
+    forward(s, bands, choices, c1, c2, c3);
     let middle = c1.len() / 2;
     print_field(b"plane", plane);
     print(b" damaged by ");
     print_sample(z);
     let old = replace_in(c1, c2, c3, plane, middle, z);
-    undo_damaged(s, choices, c1, c2, c3);
+    undo_damaged(bands, s, choices, c1, c2, c3);
     replace_in(c1, c2, c3, plane, middle, old);
 }
 
@@ -86,6 +101,7 @@ fn damaged_number(kind: u32) -> i32 {
 
 fn show_plain(
     k: u32,
+    bands: Bands,
     s: Settings,
     p: Generated,
     choices: &[u8],
@@ -95,13 +111,23 @@ fn show_plain(
 )
     requires { ⌜ UpTo16 (p .depths) ⌝ }
 {
-    there_and_back(Form::Plain, s, p, choices, c1, c2, c3);
-    damage(s, choices, c1, c2, c3, 1 + k % 3, damaged_number(k / 4 % 4));
-    undo(Form::Plain, s, p, choices, c1, c2, c3);
+    there_and_back(Form::Plain, bands, s, p, choices, c1, c2, c3);
+    damage(
+        bands,
+        s,
+        choices,
+        c1,
+        c2,
+        c3,
+        1 + k % 3,
+        damaged_number(k / 4 % 4),
+    );
+    undo(Form::Plain, bands, s, p, choices, c1, c2, c3);
 }
 
 fn show(
     k: u32,
+    bands: Bands,
     s: Settings,
     p: Generated,
     choices: &[u8],
@@ -114,14 +140,16 @@ fn show(
     print_field(b"picture", k);
     print(b" ");
     print_choices(s, choices);
+    print_bands(bands);
     print(b"\n");
-    show_plain(k, s, p, choices, c1, c2, c3);
-    wrap(s, p, choices, c1, c2, c3);
+    show_plain(k, bands, s, p, choices, c1, c2, c3);
+    wrap(bands, s, p, choices, c1, c2, c3);
 }
 
 // Fills the planes with the picture of a number.
 fn fill_and_show(
     k: u32,
+    bands: Bands,
     s: Settings,
     choices: &[u8],
     c1: &mut [i32],
@@ -140,16 +168,24 @@ fn fill_and_show(
         x2: x2,
         x3: x3,
     };
-    show(k, s, p, choices, c1, c2, c3);
+    show(k, bands, s, p, choices, c1, c2, c3);
 }
 
-fn lend(k: u32, s: Settings, choices: &[u8], n: usize)
+fn lend(k: u32, bands: Bands, s: Settings, choices: &[u8], n: usize)
     requires { ⌜ UpTo16 (s .depths) × (n ≤ 20) ⌝ }
 {
     let mut c1 = [0i32; 20];
     let mut c2 = [0i32; 20];
     let mut c3 = [0i32; 20];
-    fill_and_show(k, s, choices, &mut c1[..n], &mut c2[..n], &mut c3[..n]);
+    fill_and_show(
+        k,
+        bands,
+        s,
+        choices,
+        &mut c1[..n],
+        &mut c2[..n],
+        &mut c3[..n],
+    );
 }
 
 // With the filters of picture k, as many as its transform has places.
@@ -162,14 +198,24 @@ fn choose(k: u32, s: Settings, n: usize)
     let f4 = choice(k / 4, 3);
     let transform = s.transform;
     match transform {
-        2 => lend(k, s, &[f1, f2], n),
-        3 => lend(k, s, &[f1, f2, f3], n),
-        _ => lend(k, s, &[f1, f2, f3, f4], n),
+        2 => lend(k, Bands::One, s, &[f1, f2], n),
+        3 => lend(k, Bands::One, s, &[f1, f2, f3], n),
+        _ => lend(k, Bands::One, s, &[f1, f2, f3, f4], n),
     }
 }
 
+// With such filters for each band: band b has those of picture k + 4 × b.
+fn choose_sets(k: u32, s: Settings, n: usize)
+    requires { ⌜ (k ≤ 52) × UpTo16 (s .depths) × (n ≤ 20) ⌝ }
+{
+    let places = places(s.transform);
+    let sets = sets(k, places);
+    let count = places as usize * band_count(s.height);
+    lend(k, Bands::Of(band_rows(s.height)), s, &sets[..count], n);
+}
+
 fn picture(k: u32, width: u32, height: u32, n: usize)
-    requires { ⌜ n ≤ 20 ⌝ }
+    requires { ⌜ (k ≤ 52) × (n ≤ 20) ⌝ }
 {
     let s = Settings {
         width: width,
@@ -182,9 +228,12 @@ fn picture(k: u32, width: u32, height: u32, n: usize)
         transform: k % 4,
     };
     choose(k, s, n);
+    choose_sets(k, s, n);
 }
 
-fn sized(k: u32) {
+fn sized(k: u32)
+    requires { ⌜ k ≤ 52 ⌝ }
+{
     match k % 7 {
         0 => picture(k, 1, 1, 1),
         1 => picture(k, 1, 6, 6),

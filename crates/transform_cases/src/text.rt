@@ -5,6 +5,7 @@ use case_text::print_filters;
 use case_text::print_sample;
 use case_text::print_settings;
 use stage::Answer;
+use stage::Bands;
 use stage::Form;
 use stage::Settings;
 
@@ -34,6 +35,14 @@ pub(crate) fn print_choices(s: Settings, choices: &[u8]) {
     print_settings(s);
     print(b" filters");
     print_filters(choices);
+}
+
+// How many rows a band has, where there are bands.
+pub(crate) fn print_bands(bands: Bands) {
+    match bands {
+        Bands::One => print(b""),
+        Bands::Of(rows) => print_field(b" bands of", rows),
+    }
 }
 
 // The wrapped form is told, the plain one is not.

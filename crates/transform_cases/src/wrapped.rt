@@ -9,6 +9,7 @@ use crate::text::print_answer;
 use crate::text::print_planes;
 use case_text::print;
 use case_text::print_field;
+use stage::Bands;
 use stage::Form;
 use stage::Settings;
 use stage::each;
@@ -16,13 +17,14 @@ use stage::each;
 // The picture taken for finished planes, and what is left taken there again.
 fn undo_picture(
     form: Form,
+    bands: Bands,
     s: Settings,
     choices: &[u8],
     c1: &mut [i32],
     c2: &mut [i32],
     c3: &mut [i32],
 ) {
-    let a = back(form, s, choices, c1, c2, c3);
+    let a = back(form, bands, s, choices, c1, c2, c3);
     print_answer(b"inverse", a);
     print_planes(c1, c2, c3);
     print(b"\n");
@@ -30,6 +32,7 @@ fn undo_picture(
 
 fn run_again(
     form: Form,
+    bands: Bands,
     s: Settings,
     p: Generated,
     choices: &[u8],
@@ -39,7 +42,7 @@ fn run_again(
 )
     requires { ⌜ UpTo16 (p .depths) ⌝ }
 {
-    let a = there(form, s, choices, c1, c2, c3);
+    let a = there(form, bands, s, choices, c1, c2, c3);
     print_answer(b"forward", a);
     print_compared(p, c1, c2, c3);
 }
@@ -61,6 +64,7 @@ fn deepest(s: Settings) -> Settings {
 
 // The picture in the wrapped form, with the deepest depth for all planes: there and back, then back and there.
 pub(crate) fn wrap(
+    bands: Bands,
     s: Settings,
     p: Generated,
     choices: &[u8],
@@ -73,7 +77,7 @@ pub(crate) fn wrap(
     let w = deepest(s);
     print_field(b"wrapped to bits", w.depths.c1);
     print(b"\n");
-    there_and_back(Form::Wrapped, w, p, choices, c1, c2, c3);
-    undo_picture(Form::Wrapped, w, choices, c1, c2, c3);
-    run_again(Form::Wrapped, w, p, choices, c1, c2, c3);
+    there_and_back(Form::Wrapped, bands, w, p, choices, c1, c2, c3);
+    undo_picture(Form::Wrapped, bands, w, choices, c1, c2, c3);
+    run_again(Form::Wrapped, bands, w, p, choices, c1, c2, c3);
 }

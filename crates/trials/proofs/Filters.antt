@@ -9,6 +9,7 @@ use lib.Dec.{T, ltb}
 use lib.ListN.{length, getD, set, length-set}
 use lib.Seq.{set-set, set-getD}
 use Rattle.stage.specs.declared.Settings.{Settings}
+use Rattle.stage.specs.declared.Bands.the-variants.{One}
 use Rattle.stage.specs.Planes.{Planes}
 use Rattle.stage.specs.Ranges.{widest}
 use Rattle.stage.specs.Transform.{choicesFit}
@@ -23,11 +24,11 @@ use Rattle.trials.specs.Trials.{leads, Leads, trialEstimate, PlaceReady,
 pub record SameBut (s : Settings) (k : ℕ) (φ ψ : List ℕ) : Type 0 where
   pub same : (f : ℕ) → set ψ k f ≡ set φ k f
   pub long : length ψ ≡ length φ
-  pub fit : T (choicesFit s ψ)
+  pub fit : T (choicesFit One s ψ)
 
 but-set : {s : Settings} {k : ℕ} {φ ψ : List ℕ} (χ : List ℕ) (f : ℕ) → f ≤ 12 → SameBut s k φ ψ → χ ≡ set ψ k f → SameBut s k φ χ
 but-set {s} {k} {φ} {ψ} χ f h x e =
-    rw e (record { same = λ g. set-set ψ k f g ∙ x .same g; long = length-set ψ k f ∙ x .long; fit = choices-set s ψ (x .fit) k f h })
+    rw e (record { same = λ g. set-set ψ k f g ∙ x .same g; long = length-set ψ k f ∙ x .long; fit = choices-set One s ψ (x .fit) k f h })
 
 module _ (e : List ℕ → ℕ) (φ : List ℕ) (k : ℕ) where
   leads-none : (b : Best) → b .filter ≡ getD φ k 0 → b .estimate ≡ e φ → Leads e φ k 0 b

@@ -12,6 +12,7 @@ use Rattle.integers.specs.Slices.{slice}
 use Rattle.integers.proofs.Slices.{slice-front}
 use Rattle.stage.specs.declared.Settings.{Settings}
 use Rattle.stage.specs.declared.Form.the-variants.{Plain}
+use Rattle.stage.specs.declared.Bands.the-variants.{One}
 use Rattle.stage.specs.Planes.{Planes}
 use Rattle.stage.specs.Steps.{Step, steps, places, run}
 use Rattle.stage.specs.Ranges.{widest}
@@ -55,16 +56,16 @@ module _ (s : Settings) (p : Planes) where
 
   -- the planes before step j
   abbrev pub before : List ℕ → ℕ → Planes
-  before φ j = run (setup Plain s φ) (slice l 0 j) p
+  before φ j = run (setup Plain One s φ) (slice l 0 j) p
 
-  pub before-next : (φ : List ℕ) (i j : ℕ) (q r : Planes) → i ≤ j → q ≡ before φ i → r ≡ run (setup Plain s φ) (slice l i j) q → r ≡ before φ j
-  before-next φ i j q r h e f = f ∙ ap (run (setup Plain s φ) (slice l i j)) e ∙ sym (run-split (setup Plain s φ) l 0 i j p (omega arith) h)
+  pub before-next : (φ : List ℕ) (i j : ℕ) (q r : Planes) → i ≤ j → q ≡ before φ i → r ≡ run (setup Plain One s φ) (slice l i j) q → r ≡ before φ j
+  before-next φ i j q r h e f = f ∙ ap (run (setup Plain One s φ) (slice l i j)) e ∙ sym (run-split (setup Plain One s φ) l 0 i j p (omega arith) h)
 
   -- the estimate of the choices that the planes were run with
   pub rest-estimate : (φ : List ℕ) (j : ℕ) (q : Planes) → q ≡ before φ j → trialEstimate s j q φ ≡ estimates φ
   unfolding trialEstimate choicesEstimate transformed
   rest-estimate φ j q e =
-      let σ = setup Plain s φ in
+      let σ = setup Plain One s φ in
       ap (pictureEstimate (s .width)) (ap (run σ (drop j l)) (e ∙ ap (λ (m : List Step). run σ m p) (slice-front l j)) ∙ run-rest σ j l p)
 
   -- another filter at the place of step j
@@ -79,12 +80,12 @@ module _ (s : Settings) (p : Planes) where
     pub choices : ψ ≡ round estimates k φ
     pub planes : q ≡ before ψ i
     pub estimate : x ≡ estimates ψ
-    pub fit : T (choicesFit s ψ)
+    pub fit : T (choicesFit One s ψ)
     pub order : k < places l → i ≤ stepOf l k
     pub inside : i ≤ length l
     pub counters : Counters (widest s) m
 
-  pub first-place : (φ : List ℕ) (x : ℕ) (m : List ℕ) → T (choicesFit s φ) → x ≡ estimates φ → Counters (widest s) m → AtPlace 0 0 p φ φ x m
+  pub first-place : (φ : List ℕ) (x : ℕ) (m : List ℕ) → T (choicesFit One s φ) → x ≡ estimates φ → Counters (widest s) m → AtPlace 0 0 p φ φ x m
   unfolding round
   first-place φ x m f e z = record { choices = refl; planes = refl; estimate = e; fit = f; order = λ b. omega arith; inside = omega arith; counters = z }
 
@@ -99,7 +100,7 @@ module _ (s : Settings) (p : Planes) where
         choices = rw (add-one k) (c ∙ ap (λ (m : List ℕ). set m k (winner estimates m k 13)) (a .choices));
         planes = d .found .planes ∙ f ∙ sym (ap (λ (m : List ℕ). before m j) c ∙ before-same ψ k w j e);
         estimate = d .found .estimate ∙ ap (trialEstimate s j r) c ∙ place-estimate ψ k w j r e f ∙ ap estimates (sym c);
-        fit = rw c (choices-set s ψ (a .fit) k w (winner-filter estimates ψ k 13 (choices s ψ (a .fit) .filters k) (omega arith)));
+        fit = rw c (choices-set One s ψ (a .fit) k w (winner-filter estimates ψ k 13 (choices One s ψ (a .fit) .filters k) (omega arith)));
         order = λ h. rw e (step-order (s .transform) k h);
         inside = rw e (step-inside l k);
         counters = d .found .counters;
@@ -109,7 +110,7 @@ module _ (s : Settings) (p : Planes) where
   abbrev pub AfterRounds : ℕ → List ℕ → ℕ → Planes → List ℕ → List ℕ → Type 0
   AfterRounds k φ x q ψ m = RoundsDone s p (rounds estimates (places l) k φ) x q ψ m
 
-  pub first-round : (φ : List ℕ) (x : ℕ) (m : List ℕ) → T (choicesFit s φ) → x ≡ estimates φ → Counters (widest s) m → AfterRounds 0 φ x p φ m
+  pub first-round : (φ : List ℕ) (x : ℕ) (m : List ℕ) → T (choicesFit One s φ) → x ≡ estimates φ → Counters (widest s) m → AfterRounds 0 φ x p φ m
   unfolding rounds
   first-round φ x m f e z = record { choices = refl; fit = f; estimate = e; planes = refl; counters = z }
 
@@ -128,7 +129,7 @@ pub trial-first : (s : Settings) (p : Planes) (φ : List ℕ) → trialEstimate 
 unfolding trialEstimate choicesEstimate transformed
 trial-first s p φ = refl
 
-pub all-steps : (s : Settings) (u : Bool) (p : Planes) (φ : List ℕ) → cond u p (run (setup Plain s φ) (drop 0 (steps (s .transform))) p) ≡ cond u p (transformed Plain s φ p)
+pub all-steps : (s : Settings) (u : Bool) (p : Planes) (φ : List ℕ) → cond u p (run (setup Plain One s φ) (drop 0 (steps (s .transform))) p) ≡ cond u p (transformed Plain One s φ p)
 unfolding transformed
 all-steps s u p φ = refl
 

@@ -1,6 +1,6 @@
 -- A trial's steps: a place's filter matters from its step on, planes that no step changes stay as they are, and the estimates of the
 -- planes that are changed and of the others add up.
-use mathlib.Core.Path.{_≡_, refl, sym, ap, ap₂, _∙_}
+use mathlib.Core.Path.{_≡_, refl, sym, ap, ap₂, _∙_, subst}
 use mathlib.Core.Bool.{Bool, true, false, cond, not, _||_}
 use mathlib.Core.List.{List, [], _∷_}
 use Prim.Native.Nat.{ℕ, zero, suc, _+_, _≤_}
@@ -14,6 +14,7 @@ use Rattle.integers.proofs.Booleans.{false-fails}
 use Rattle.integers.proofs.Slices.{slice-none, slice-back}
 use Rattle.stage.specs.declared.Settings.{Settings}
 use Rattle.stage.specs.declared.Form.the-variants.{Plain}
+use Rattle.stage.specs.declared.Bands.the-variants.{One}
 use Rattle.stage.specs.declared.Plane.{Plane}
 use Rattle.stage.specs.declared.Plane.the-variants.{C1, C2, C3}
 use Rattle.stage.specs.Settings.{depthAt, Allowed}
@@ -29,8 +30,8 @@ use Rattle.stage.proofs.Numbers.{extent-widest, widest-most}
 use Rattle.stage.proofs.Validity.{pixels-some, pixels-most}
 use Rattle.estimate.specs.Counting.{Countable}
 use Rattle.lifting.specs.Passes.{hasPlace, stepOf, changes, lastChange}
-use Rattle.lifting.specs.Steps.{AtStep, StepsFit, UndoReady}
-use Rattle.lifting.proofs.Readiness.{at-finished, ready-undo}
+use Rattle.lifting.specs.Steps.{Ready, AtStep, StepsFit, UndoReady}
+use Rattle.lifting.proofs.Readiness.{at-finished, at-next, at-ready, ready-undo}
 use Rattle.trials.specs.Trials.{changed, others, partEstimate, baseEstimate, trialEstimate}
 
 -- ---- two tests, both false
@@ -41,10 +42,10 @@ or-false false b e = (refl, e)
 -- ---- a place's filter
 module _ (s : Settings) (φ : List ℕ) (k f : ℕ) where
   abbrev σ : Setup
-  σ = setup Plain s φ
+  σ = setup Plain One s φ
 
   abbrev τ : Setup
-  τ = setup Plain s (set φ k f)
+  τ = setup Plain One s (set φ k f)
 
   -- a term without the place does not depend on it
   same-places : (t : Term) → hasPlace t k ≡ false → (i : ℕ) → SameFilters τ σ t i
@@ -57,7 +58,7 @@ module _ (s : Settings) (φ : List ℕ) (k f : ℕ) where
   before : (x : Step) (l : List Step) (n : ℕ) (p : Planes) → ((q : Planes) → run τ (take n l) q ≡ run σ (take n l) q) → (b : Bool) → hasPlace (x .term) k ≡ b
       → run τ (take (cond b 0 (suc n)) (x ∷ l)) p ≡ run σ (take (cond b 0 (suc n)) (x ∷ l)) p
   before x l n p h true e = refl
-  before x l n p h false e = ap (run τ (take n l)) (step-same τ σ refl refl p refl (λ z. refl) x (same-places (x .term) e)) ∙ h (step σ x p)
+  before x l n p h false e = ap (run τ (take n l)) (step-same τ σ refl refl p refl (λ z. refl) x (λ i b. same-places (x .term) e i)) ∙ h (step σ x p)
 
   pub run-before : (l : List Step) (p : Planes) → run τ (take (stepOf l k) l) p ≡ run σ (take (stepOf l k) l) p
   run-before [] p = refl
@@ -106,31 +107,35 @@ module _ (w : ℕ) (l : List Step) (p q : Planes) (same : (c : Plane) → change
 
 -- the estimates of a trial add up
 pub trial-sum : (s : Settings) (k n : ℕ) (φ : List ℕ) (q p : Planes) {b : Triple Bool} {base e : ℕ} → n ≡ length (steps (s .transform))
-    → p ≡ run (setup Plain s φ) (slice (steps (s .transform)) k n) q → b ≡ changed (drop k (steps (s .transform))) → base ≡ baseEstimate s k q → e ≡ partEstimate (s .width) b p
+    → p ≡ run (setup Plain One s φ) (slice (steps (s .transform)) k n) q → b ≡ changed (drop k (steps (s .transform))) → base ≡ baseEstimate s k q → e ≡ partEstimate (s .width) b p
     → base + e ≡ trialEstimate s k q φ
 unfolding trialEstimate
 trial-sum s k n φ q p {b} {base} {e} all ran set-is base-is e-is =
     let w = s .width in
     let l = drop k (steps (s .transform)) in
-    let r : p ≡ run (setup Plain s φ) l q = ran ∙ ap (λ (m : List Step). run (setup Plain s φ) m q) (slice-back (steps (s .transform)) k n all) in
-    let x : e ≡ partEstimate w (changed l) (run (setup Plain s φ) l q) = e-is ∙ ap (λ (c : Triple Bool). partEstimate w c p) set-is ∙ ap (partEstimate w (changed l)) r in
-    omega (arith, base-is, x, parts-estimate w l q (run (setup Plain s φ) l q) (λ c. run-unchanged (setup Plain s φ) l c q))
+    let r : p ≡ run (setup Plain One s φ) l q = ran ∙ ap (λ (m : List Step). run (setup Plain One s φ) m q) (slice-back (steps (s .transform)) k n all) in
+    let x : e ≡ partEstimate w (changed l) (run (setup Plain One s φ) l q) = e-is ∙ ap (λ (c : Triple Bool). partEstimate w c p) set-is ∙ ap (partEstimate w (changed l)) r in
+    omega (arith, base-is, x, parts-estimate w l q (run (setup Plain One s φ) l q) (λ c. run-unchanged (setup Plain One s φ) l c q))
 
 -- ---- the steps from k on, run and undone, or only run
-module _ {s : Settings} {φ : List ℕ} {k n : ℕ} (fit : StepsFit s φ k n) (q : Planes) {p : Planes} (ran : p ≡ run (setup Plain s φ) (slice (steps (s .transform)) k n) q) where
-  pub ready-left : ((c : Plane) → depthAt s c ≤ 16) → AtStep s k q → (u : Bool) {b : ℕ} → b ≡ cond u k n → UndoReady Plain s φ b n p
+module _ {s : Settings} {φ : List ℕ} {k n : ℕ} (fit : StepsFit One s φ k n) (q : Planes) {p : Planes} (ran : p ≡ run (setup Plain One s φ) (slice (steps (s .transform)) k n) q) where
+  pub ready-left : ((c : Plane) → depthAt s c ≤ 16) → AtStep s k q → (u : Bool) {b : ℕ} → b ≡ cond u k n → UndoReady Plain One s φ b n p
   ready-left deep z true e = rw e (ready-undo deep fit z ran)
   ready-left deep z false e = rw e (record {
-    fit = record { transform = fit .transform; depth = fit .depth; order = omega arith; last = fit .last; choices = fit .choices };
-    before = λ i h g. absurd (omega arith);
+    fit = record { transform = fit .transform; depth = fit .depth; order = omega arith; last = fit .last; bands = fit .bands; choices = fit .choices };
+    ready = λ i h g.
+        let at : i ≡ n = omega arith in
+        subst (Ready s)
+        (sym (ap (λ (m : List Step). undo (setup Plain One s φ) m p) (ap (λ (j : ℕ). slice (steps (s .transform)) j n) at ∙ slice-none (steps (s .transform)) n)))
+        (at-ready deep (at-next Plain One tt z n φ p (fit .order) ran));
   })
 
-  pub planes-left : n ≡ length (steps (s .transform)) → (u : Bool) {b : ℕ} {o : Planes} → b ≡ cond u k n → o ≡ undo (setup Plain s φ) (slice (steps (s .transform)) b n) p
-      → o ≡ cond u q (run (setup Plain s φ) (drop k (steps (s .transform))) q)
-  planes-left all true e h = h ∙ ap₂ (λ (i : ℕ) (r : Planes). undo (setup Plain s φ) (slice (steps (s .transform)) i n) r) e ran ∙ slice-undone s φ k n q
+  pub planes-left : n ≡ length (steps (s .transform)) → (u : Bool) {b : ℕ} {o : Planes} → b ≡ cond u k n → o ≡ undo (setup Plain One s φ) (slice (steps (s .transform)) b n) p
+      → o ≡ cond u q (run (setup Plain One s φ) (drop k (steps (s .transform))) q)
+  planes-left all true e h = h ∙ ap₂ (λ (i : ℕ) (r : Planes). undo (setup Plain One s φ) (slice (steps (s .transform)) i n) r) e ran ∙ slice-undone One s φ k n q
   planes-left all false e h =
-      h ∙ ap (λ (m : List Step). undo (setup Plain s φ) m p) (ap (λ (i : ℕ). slice (steps (s .transform)) i n) e ∙ slice-none (steps (s .transform)) n) ∙ ran
-      ∙ ap (λ (m : List Step). run (setup Plain s φ) m q) (slice-back (steps (s .transform)) k n all)
+      h ∙ ap (λ (m : List Step). undo (setup Plain One s φ) m p) (ap (λ (i : ℕ). slice (steps (s .transform)) i n) e ∙ slice-none (steps (s .transform)) n) ∙ ran
+      ∙ ap (λ (m : List Step). run (setup Plain One s φ) m q) (slice-back (steps (s .transform)) k n all)
 
 -- ---- planes that stand before a step can be counted
 pub countable : {s : Settings} {k : ℕ} {q : Planes} → Allowed s → AtStep s k q → (c : Plane) → Countable (s .width) (widest s) (get q c)

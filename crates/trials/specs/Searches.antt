@@ -5,6 +5,7 @@ use mathlib.Core.List.{List}
 use Prim.Native.Nat.{ℕ}
 use Rattle.stage.specs.declared.Settings.{Settings}
 use Rattle.stage.specs.declared.Form.the-variants.{Plain}
+use Rattle.stage.specs.declared.Bands.the-variants.{One}
 use Rattle.stage.specs.Settings.{Allowed}
 use Rattle.stage.specs.Planes.{Planes}
 use Rattle.stage.specs.Steps.{steps, places}
@@ -22,7 +23,7 @@ pub record PictureReady (s : Settings) (p : Planes) (l : List ℕ) : Type 0 wher
 -- the estimate r of choices φ was found; planes q are as planes p were, or p transformed; counters m are as counters l were
 pub record EstimateFound (s : Settings) (undone : Bool) (p : Planes) (l φ : List ℕ) (r : ℕ) (q : Planes) (m : List ℕ) : Type 0 where
   pub estimate : r ≡ choicesEstimate s p φ
-  pub planes : q ≡ cond undone p (transformed Plain s φ p)
+  pub planes : q ≡ cond undone p (transformed Plain One s φ p)
   pub counters : m ≡ l
 
 -- n rounds of the search found choices φ with the estimate r

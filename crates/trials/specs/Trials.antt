@@ -7,6 +7,7 @@ use lib.Dec.{T, ltb}
 use lib.ListN.{length, drop, set}
 use Rattle.stage.specs.declared.Settings.{Settings}
 use Rattle.stage.specs.declared.Form.the-variants.{Plain}
+use Rattle.stage.specs.declared.Bands.the-variants.{One}
 use Rattle.stage.specs.declared.Plane.{Plane}
 use Rattle.stage.specs.declared.Plane.the-variants.{C1, C2, C3}
 use Rattle.stage.specs.Settings.{Allowed}
@@ -45,7 +46,7 @@ baseEstimate s k q = partEstimate (s .width) (others (changed (drop k (steps (s 
 
 -- the estimate of choices φ, from planes q that stand before step k
 unfoldable pub trialEstimate : Settings → ℕ → Planes → List ℕ → ℕ
-trialEstimate s k q φ = pictureEstimate (s .width) (run (setup Plain s φ) (drop k (steps (s .transform))) q)
+trialEstimate s k q φ = pictureEstimate (s .width) (run (setup Plain One s φ) (drop k (steps (s .transform))) q)
 
 -- ---- what is asked and answered
 -- planes q that stand before step k, with counters l and the table of logarithms
@@ -76,20 +77,20 @@ pub record PartFound (s : Settings) (b : Triple Bool) (p : Planes) (r : ℕ) (l 
 -- a trial of choices φ; b is the estimate of the planes that no step from k on changes
 pub record ChoicesReady (s : Settings) (k b : ℕ) (q : Planes) (φ l table : List ℕ) : Type 0 where
   pub trial : TrialReady s k q l table
-  pub choices : T (choicesFit s φ)
+  pub choices : T (choicesFit One s φ)
   pub base : PartAnswer (baseEstimate s k q) b
 
 -- its estimate is answered; planes p are as they were if the steps from k on were undone, else with these run; the counters are zero again
 pub record TrialFound (s : Settings) (k : ℕ) (undone : Bool) (q : Planes) (φ : List ℕ) (r : ℕ) (p : Planes) (l : List ℕ) : Type 0 where
   pub estimate : r ≡ trialEstimate s k q φ
-  pub planes : p ≡ cond undone q (run (setup Plain s φ) (drop k (steps (s .transform))) q)
+  pub planes : p ≡ cond undone q (run (setup Plain One s φ) (drop k (steps (s .transform))) q)
   pub counters : Counters (widest s) l
 
 -- ---- places
 -- What is known of a place before its filters are tried: the planes stand before its step; the base is the estimate of the planes
 -- that its step and the later ones do not change; the present filter's estimate.
 pub record PlaceReady (s : Settings) (q : Planes) (φ : List ℕ) (x : Place) : Type 0 where
-  pub choices : T (choicesFit s φ)
+  pub choices : T (choicesFit One s φ)
   pub place : x .place < length φ
   pub base : PartAnswer (baseEstimate s (x .step) q) (x .base)
   pub present : x .present .estimate ≡ trialEstimate s (x .step) q (set φ (x .place) (x .present .filter))
@@ -116,7 +117,7 @@ pub record Leads (e : List ℕ → ℕ) (φ : List ℕ) (k n : ℕ) (b : Best) :
 -- the choices have the estimate x, and place k is one of theirs
 pub record ChooseReady (s : Settings) (k x : ℕ) (q : Planes) (φ l table : List ℕ) : Type 0 where
   pub trial : TrialReady s (stepOf (steps (s .transform)) k) q l table
-  pub choices : T (choicesFit s φ)
+  pub choices : T (choicesFit One s φ)
   pub place : k < places (steps (s .transform))
   pub estimate : x ≡ trialEstimate s (stepOf (steps (s .transform)) k) q φ
 
@@ -128,13 +129,13 @@ pub record Chosen (s : Settings) (j k : ℕ) (q : Planes) (φ : List ℕ) (r : �
 -- ---- rounds: choices φ that fit, with their estimate x
 pub record RoundReady (s : Settings) (x : ℕ) (q : Planes) (φ l table : List ℕ) : Type 0 where
   pub trial : TrialReady s 0 q l table
-  pub choices : T (choicesFit s φ)
+  pub choices : T (choicesFit One s φ)
   pub estimate : x ≡ choicesEstimate s q φ
 
 -- what a round, or n rounds, leave: ψ is what the search's definition gives
 pub record RoundsDone (s : Settings) (q : Planes) (χ : List ℕ) (r : ℕ) (p : Planes) (ψ l : List ℕ) : Type 0 where
   pub choices : ψ ≡ χ
-  pub fit : T (choicesFit s ψ)
+  pub fit : T (choicesFit One s ψ)
   pub estimate : r ≡ choicesEstimate s q ψ
   pub planes : p ≡ q
   pub counters : Counters (widest s) l

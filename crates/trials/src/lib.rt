@@ -9,6 +9,7 @@ ghost use lib.Dec.{T};
 ghost use lib.ListN.{length, replicate};
 ghost use Rattle.stage.specs.Planes.{triple};
 ghost use Rattle.stage.specs.Steps.{steps, places};
+ghost use Rattle.stage.specs.declared.Bands.the-variants.{One};
 ghost use Rattle.stage.specs.Transform.{choicesFit};
 ghost use Rattle.trials.specs.Searches.{PictureReady, EstimateFound, SearchFound};
 use round::rounds;
@@ -27,7 +28,7 @@ pub fn estimate_picture(
     counters: &mut [u32],
 ) -> u32
     requires { ⌜ PictureReady settings (triple (now c1) (now c2) (now c3)) (now counters) ⌝ }
-    requires { ⌜ T (choicesFit settings (now choices)) ⌝ }
+    requires { ⌜ T (choicesFit One settings (now choices)) ⌝ }
     ensures { λ r. ⌜ EstimateFound settings undone (triple (now (c1 .entry)) (now (c2 .entry)) (now (c3 .entry))) (now (counters .entry)) (now (choices .entry)) r (triple (now (c1 .exit)) (now (c2 .exit)) (now (c3 .exit))) (now (counters .exit)) ⌝ }
 {
     let table = logs::table();

@@ -7,6 +7,7 @@ use crate::place::choose;
 use lifting::passes::step_of;
 use lifting::steps::run_steps;
 use lifting::steps::undo_steps;
+use stage::Bands;
 use stage::Form;
 use stage::Settings;
 
@@ -28,11 +29,31 @@ fn round(
     let mut from = 0;
     for place in 0..choices.len() {
         let step = step_of(settings.transform, place);
-        run_steps(c1, c2, c3, settings, Form::Plain, choices, from, step);
+        run_steps(
+            c1,
+            c2,
+            c3,
+            settings,
+            Form::Plain,
+            Bands::One,
+            choices,
+            from,
+            step,
+        );
         e = choose(c1, c2, c3, settings, place, e, choices, counters, table);
         from = step;
     }
-    undo_steps(c1, c2, c3, settings, Form::Plain, choices, 0, from);
+    undo_steps(
+        c1,
+        c2,
+        c3,
+        settings,
+        Form::Plain,
+        Bands::One,
+        choices,
+        0,
+        from,
+    );
     e
 }
 

@@ -13,6 +13,7 @@ use lifting::passes::step_count;
 use lifting::steps::run_steps;
 use lifting::steps::undo_steps;
 use ranges::widest;
+use stage::Bands;
 use stage::Form;
 use stage::Plane;
 use stage::Settings;
@@ -130,7 +131,17 @@ pub fn trial(
     ensures { λ r. ⌜ TrialFound settings step undone (triple (now (c1 .entry)) (now (c2 .entry)) (now (c3 .entry))) (now (choices .entry)) r (triple (now (c1 .exit)) (now (c2 .exit)) (now (c3 .exit))) (now (counters .exit)) ⌝ }
 {
     let n = step_count(settings.transform);
-    run_steps(c1, c2, c3, settings, Form::Plain, choices, step, n);
+    run_steps(
+        c1,
+        c2,
+        c3,
+        settings,
+        Form::Plain,
+        Bands::One,
+        choices,
+        step,
+        n,
+    );
     let set = changed(settings.transform, step);
     let e = base + part_estimate(c1, c2, c3, settings, set, counters, table);
     undo_steps(
@@ -139,6 +150,7 @@ pub fn trial(
         c3,
         settings,
         Form::Plain,
+        Bands::One,
         choices,
         undone_to(undone, step, n),
         n,

@@ -8,6 +8,7 @@ use denote.Ref.{now}
 use Rattle.integers.proofs.Booleans.{held, failed}
 use Rattle.stage.specs.declared.Plane.{Plane}
 use Rattle.stage.specs.declared.Plane.the-variants.{C1, C2, C3}
+use Rattle.stage.specs.declared.Bands.the-variants.{One}
 use Rattle.stage.specs.Answers.{Test, refusal}
 use Rattle.stage.specs.Planes.{Planes, triple, get}
 use Rattle.stage.specs.Transform.{choicesFit, lengths, isPicture}
@@ -29,7 +30,7 @@ abbrev memory : tie.Start → Scratch
 memory a = scratchOf (trials a) (now (a .args .counters))
 
 abbrev fit : tie.Start → Bool
-fit a = choicesFit (a .args .settings) (now (a .args .choices))
+fit a = choicesFit One (a .args .settings) (now (a .args .choices))
 
 abbrev tests : tie.Start → Bool → List Test
 tests a b = scratchTests (a .args .settings) b (lengths (planes a)) (lengths (trials a)) (length (now (a .args .counters)))
@@ -42,7 +43,7 @@ decision : (r : tie.After-scratch-refusal) → let a = start r in let s = a .arg
     (r .scratch-refusal .result)
 decision r =
     let a = start r in
-    decides (tests a (fit a)) _ 11 _ _ _ (tt, (tt, (tt, (tt, (tt, (tt, (tt, (tt, tt)))))))) _
+    decides (tests a (fit a)) _ 11 _ _ _ (tt, (tt, (tt, (tt, (tt, (tt, (tt, (tt, (tt, tt))))))))) _
     (r .scratch-refusal .ensures ∙ ap (λ (b : Bool). refusal (tests a b)) (r .before .choices-fit .ensures))
 
 past : (e : tie.Else1) → let a = start (e .before) in Passed (a .args .settings) (fit a) (planes a) (trials a) (now (a .args .counters))

@@ -10,6 +10,7 @@ use denote.Ref.{now}
 use Rattle.integers.proofs.Booleans.{held, failed}
 use Rattle.stage.specs.declared.Plane.{Plane}
 use Rattle.stage.specs.declared.Plane.the-variants.{C1, C2, C3}
+use Rattle.stage.specs.declared.Bands.the-variants.{One}
 use Rattle.stage.specs.Answers.{Test, _else_, refusal, between}
 use Rattle.stage.specs.Planes.{Planes, triple, get}
 use Rattle.stage.specs.Transform.{countFits, lengths, isPicture}
@@ -31,7 +32,7 @@ abbrev memory : tie.Start → Lent
 memory a = lent (now (a .args .choices)) (trials a) (now (a .args .counters))
 
 abbrev fit : tie.Start → Bool
-fit a = countFits (a .args .settings) (length (now (a .args .choices)))
+fit a = countFits One (a .args .settings) (length (now (a .args .choices)))
 
 abbrev tests : tie.Start → Bool → List Test
 tests a b = scratchTests (a .args .settings) b (lengths (planes a)) (lengths (trials a)) (length (now (a .args .counters)))
@@ -55,9 +56,9 @@ decision r =
     let f = i .before .scratch-refusal .result in
     let e : r .select2 .result ≡ cond (eqb f 0) (r .before .select .result) f = r .select2 .ensures in
     decides (searchTests (a .args .settings) (planes a) (a .args .rounds) (memory a)) _ 11 _ _ _
-    (tt, (tt, (tt, (tt, (tt, (tt, (tt, (tt, (tt, tt))))))))) _
+    (tt, (tt, (tt, (tt, (tt, (tt, (tt, (tt, (tt, (tt, tt)))))))))) _
     (e ∙ ap₂ (λ (x y : ℕ). cond (eqb x 0) y x) n m
-    ∙ refusal-then (tests a (fit a)) (last a) (tt, (tt, (tt, (tt, (tt, (tt, (tt, tt))))))))
+    ∙ refusal-then (tests a (fit a)) (last a) (tt, (tt, (tt, (tt, (tt, (tt, (tt, (tt, tt)))))))))
 
 past : (e : tie.Else1) → let a = start (e .before) in Passed (a .args .settings) (fit a) (planes a) (trials a) (now (a .args .counters))
 past e =

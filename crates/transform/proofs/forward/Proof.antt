@@ -10,7 +10,7 @@ returns : tie.Need-returns
 returns c =
     let l = c .before .before .before in
     let a = l .before .before .before .before .before .args in
-    picture-forward (a .settings) (now (a .choices)) (triple (now (a .c1)) (now (a .c2)) (now (a .c3))) (l .lift-picture .result) Plain (l .lift-picture .ensures)
+    picture-forward (a .bands) (a .settings) (now (a .choices)) (triple (now (a .c1)) (now (a .c2)) (now (a .c3))) (l .lift-picture .result) Plain (l .lift-picture .ensures)
 
 pub forward-spec : {M : Type 1} → statement M
 forward-spec = tie.close (tie.spec (λ c κs. search needs) (λ c. search needs) (λ c. search needs) (λ c. search needs) returns)

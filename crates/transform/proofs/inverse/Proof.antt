@@ -21,12 +21,12 @@ abbrev start : tie.After-refusal → tie.Start
 start r = r .before .before .before
 
 decision : (r : tie.After-refusal) → let a = start r in let s = a .args .settings in let φ = now (a .args .choices) in
-    Decides (tests Plain s φ (planes a)) (isPicture s (untransformed Plain s φ (planes a))) 12 (tt {0}) (untransformed Plain s φ (planes a)) (planes a) (r .refusal .result)
+    Decides (tests Plain (a .args .bands) s φ (planes a)) (isPicture s (untransformed Plain (a .args .bands) s φ (planes a))) 12 (tt {0}) (untransformed Plain (a .args .bands) s φ (planes a)) (planes a) (r .refusal .result)
 decision r =
     let a = start r in
-    decided Plain (a .args .settings) (now (a .args .choices)) (planes a) _ (r .before .choices-fit .ensures) (r .refusal .ensures) _ 12 tt _
+    decided Plain (a .args .bands) (a .args .settings) (now (a .args .choices)) (planes a) _ (r .before .choices-fit .ensures) (r .refusal .ensures) _ 12 tt _
 
-past : (e : tie.Else1) → let a = start (e .before) in Holds (tests Plain (a .args .settings) (now (a .args .choices)) (planes a))
+past : (e : tie.Else1) → let a = start (e .before) in Holds (tests Plain (a .args .bands) (a .args .settings) (now (a .args .choices)) (planes a))
 past e = decision (e .before) .passed (e .if1 .left)
 
 -- the planes lie in their ranges
@@ -50,33 +50,33 @@ in-finished-ranges-requires : tie.Need-in-finished-ranges-requires
 in-finished-ranges-requires c κs =
     let e = c .before .before .before in
     let a = start (e .before) in
-    valid Plain (a .args .settings) (now (a .args .choices)) (planes a) (past e) .allowed
+    valid Plain (a .args .bands) (a .args .settings) (now (a .args .choices)) (planes a) (past e) .allowed
 
 returns-2 : tie.Need-returns-2
 returns-2 c =
     let i = c .before in
     let e = i .before .before .before .before in
     let a = start (e .before) in
-    inverse-outside (a .args .settings) (now (a .args .choices)) (planes a) (past e) (failed (i .in-finished-ranges .ensures) (c .if2 .taken))
+    inverse-outside (a .args .bands) (a .args .settings) (now (a .args .choices)) (planes a) (past e) (failed (i .in-finished-ranges .ensures) (c .if2 .taken))
 
 step-count-requires : tie.Need-step-count-requires
 step-count-requires c κs =
     let e = c .before .before .before .before .before in
     let a = start (e .before) in
-    valid Plain (a .args .settings) (now (a .args .choices)) (planes a) (past e) .allowed .transform-most
+    valid Plain (a .args .bands) (a .args .settings) (now (a .args .choices)) (planes a) (past e) .allowed .transform-most
 
 undo-steps-requires : tie.Need-undo-steps-requires
 undo-steps-requires c κs =
     let n = c .before .before .before in
     let e = n .before .before .before .before .before .before in
     let a = start (e .before) in
-    inverse-ready (a .args .settings) (now (a .args .choices)) (planes a) (past e) _ (n .step-count .ensures) (inside (n .before))
+    inverse-ready (a .args .bands) (a .args .settings) (now (a .args .choices)) (planes a) (past e) _ (n .step-count .ensures) (inside (n .before))
 
 is-picture-requires : tie.Need-is-picture-requires
 is-picture-requires c κs =
     let e = tested (c .before .before .before .before .before .before) in
     let a = start (e .before) in
-    valid Plain (a .args .settings) (now (a .args .choices)) (planes a) (past e) .allowed
+    valid Plain (a .args .bands) (a .args .settings) (now (a .args .choices)) (planes a) (past e) .allowed
 
 returns-3 : tie.Need-returns-3
 unfolding inverse
@@ -87,8 +87,8 @@ returns-3 c =
     let a = start (tested u .before) in
     let s = a .args .settings in
     let φ = now (a .args .choices) in
-    decision (tested u .before) .succeeds (tested u .if1 .left) (undone-test s φ (planes a) _ n (u .undo-steps .ensures) (i .is-picture .ensures) (c .if3 .taken)) tt _ refl
-    (u .undo-steps .ensures ∙ undo-all Plain s φ (planes a) _ n (planes a))
+    decision (tested u .before) .succeeds (tested u .if1 .left) (undone-test (a .args .bands) s φ (planes a) _ n (u .undo-steps .ensures) (i .is-picture .ensures) (c .if3 .taken)) tt _ refl
+    (u .undo-steps .ensures ∙ undo-all Plain (a .args .bands) s φ (planes a) _ n (planes a))
 
 run-steps-requires : tie.Need-run-steps-requires
 run-steps-requires c κs =
@@ -96,7 +96,7 @@ run-steps-requires c κs =
     let n = u .before .before .before .before in
     let e = tested u in
     let a = start (e .before) in
-    again-ready (a .args .settings) (now (a .args .choices)) (planes a) (past e) _ (n .step-count .ensures) (inside (n .before)) _ (u .undo-steps .ensures)
+    again-ready (a .args .bands) (a .args .settings) (now (a .args .choices)) (planes a) (past e) _ (n .step-count .ensures) (inside (n .before)) _ (u .undo-steps .ensures)
 
 returns-4 : tie.Need-returns-4
 unfolding inverse
@@ -110,8 +110,8 @@ returns-4 c =
     let a = start (e .before) in
     let s = a .args .settings in
     let φ = now (a .args .choices) in
-    ap (outcomeOf (Refused 12)) (restored s φ (planes a) _ (n .step-count .ensures) (u .undo-steps .ensures) (r .run-steps .ensures))
-    ∙ decision (e .before) .last (e .if1 .left) (undone-test s φ (planes a) _ (n .step-count .ensures) (u .undo-steps .ensures) (i .is-picture .ensures) (o .if3 .left))
+    ap (outcomeOf (Refused 12)) (restored (a .args .bands) s φ (planes a) _ (n .step-count .ensures) (u .undo-steps .ensures) (r .run-steps .ensures))
+    ∙ decision (e .before) .last (e .if1 .left) (undone-test (a .args .bands) s φ (planes a) _ (n .step-count .ensures) (u .undo-steps .ensures) (i .is-picture .ensures) (o .if3 .left))
 
 pub inverse-spec : {M : Type 1} → statement M
 inverse-spec =

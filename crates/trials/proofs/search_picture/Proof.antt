@@ -6,6 +6,7 @@ use native.Mathlib.Omega.{arith}
 use lib.Dec.{T}
 use lib.ListN.{length}
 use denote.Ref.{now}
+use Rattle.stage.specs.declared.Bands.the-variants.{One}
 use Rattle.stage.specs.Planes.{Planes, triple}
 use Rattle.stage.specs.Transform.{choicesFit}
 use Rattle.stage.specs.Search.{choicesEstimate}
@@ -25,10 +26,10 @@ start k = k .before .before .before .before
 abbrev zeros : tie.After-clear-choices → List ℕ
 zeros k = k .clear-choices .last .0
 
-fit : (k : tie.After-clear-choices) → T (choicesFit (start k .args .settings) (zeros k))
+fit : (k : tie.After-clear-choices) → T (choicesFit One (start k .args .settings) (zeros k))
 fit k =
     let a = start k in
-    subst (λ (φ : List ℕ). T (choicesFit (a .args .settings) φ)) (sym (k .clear-choices .ensures)) (choices-equal (a .args .settings) (length (now (a .args .choices))) 0 tt (a .pre .1))
+    subst (λ (φ : List ℕ). T (choicesFit One (a .args .settings) φ)) (sym (k .clear-choices .ensures)) (choices-equal One (a .args .settings) (length (now (a .args .choices))) 0 tt (a .pre .1))
 
 abbrev cleared : tie.After-estimate-picture → tie.After-clear-choices
 cleared e = e .before .before .before .before .before .before .before .before

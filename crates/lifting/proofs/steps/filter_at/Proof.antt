@@ -7,7 +7,7 @@ shared-slice-read-result : tie.Need-shared-slice-read-result
 shared-slice-read-result c = search needs
 
 cast-result : tie.Need-cast-result
-cast-result c = omega (arith, c .shared-slice-known .given (c .before .args .place))
+cast-result c = omega (arith, c .shared-slice-known .given (c .before .args .choice))
 
 returns : tie.Need-returns
 returns c = search needs

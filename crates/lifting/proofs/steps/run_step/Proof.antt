@@ -1,110 +1,110 @@
 use borrow.Author.Needs.{needs}
-use mathlib.Core.Path.{_≡_, ap, _∙_}
-use mathlib.Core.List.{List}
-use Prim.Native.Nat.{ℕ, _<_}
+use mathlib.Core.Path.{_≡_, refl, sym, ap, _∙_, subst}
+use Prim.Native.Nat.{ℕ, _+_, _*_, _-_, _≤_, _<_}
 use native.Mathlib.Omega.{arith}
-use lib.IntN.{ℤ}
 use denote.Ref.{now}
-use Rattle.integers.specs.Lists.{mapIndexed}
+use Rattle.integers.proofs.Changes.{changed-none}
+use lib.ListN.{length}
+use Rattle.stage.specs.declared.Plane.{Plane}
 use Rattle.stage.specs.declared.Plane.the-variants.{C1, C2, C3}
-use Rattle.stage.specs.Planes.{Planes, triple, get, put}
-use Rattle.stage.specs.Steps.{steps, places}
-use Rattle.stage.proofs.Choices.{Choices, choices}
-use Rattle.lifting.specs.Passes.{passAt, passed}
-use Rattle.lifting.proofs.Table.{told}
-use Rattle.lifting.proofs.TransformPasses.{both-equal, changed-rows, rows-all, one-pass, quarter-step}
+use Rattle.stage.specs.Planes.{Planes, triple, get}
+use Rattle.stage.specs.Steps.{Step}
+use Rattle.lifting.specs.Passes.{stepAt, reversedIf}
+use Rattle.lifting.specs.Steps.{Ready}
+use Rattle.lifting.specs.BandRows.{bandRows, rowsBefore, BandReady, StepRows}
+use Rattle.lifting.proofs.BandRows.{band-most, rows-order}
+use Rattle.lifting.proofs.StepRows.{step-apart, rows-none, rows-more, rows-long, rows-ready, rows-done}
 use Rattle.lifting.proofs.steps.run_step.Statement.{statement}
 use Rattle.lifting.proofs.steps.run_step.Tie as tie
 
-abbrev planes : tie.Start → Planes
-planes a = triple (now (a .args .c1)) (now (a .args .c2)) (now (a .args .c3))
+abbrev Inv-loop : tie.InvT-loop
+Inv-loop c1₀ c2₀ c3₀ settings form bands choices k back h band₀ c1 c2 c3 band =
+    (band ≤ h) × StepRows form bands settings choices (reversedIf back (stepAt (settings .transform) k)) 0 (rowsBefore bands h band) (triple c1₀ c2₀ c3₀) (triple c1 c2 c3)
 
-fit : (a : tie.Start) → Choices (a .args .settings) (now (a .args .choices))
-fit a = choices (a .args .settings) (now (a .args .choices)) (a .pre .choices)
+abbrev μ-loop : tie.MeasureT-loop
+μ-loop c1₀ c2₀ c3₀ settings form bands choices k back h band₀ c1 c2 c3 band = h - band
 
-place : (a : tie.Start) → a .args .k < places (steps (a .args .settings .transform))
-place a = omega (arith, a .pre .step, told (a .args .settings .transform) (a .pre .transform) .enough)
+abbrev start : tie.At-loop Inv-loop μ-loop → tie.Start Inv-loop μ-loop
+start l = l .before .before .before
 
--- RCT's third step
-third : (c : tie.Then1) → let s = c .before .before .before .before .before .args in (s .settings .transform ≡ 0) × (s .k ≡ 2)
-third c = let s = c .before .before .before .before .before .args in both-equal (s .settings .transform) (s .k) 0 2 (c .if1 .taken)
+abbrev planes : tie.At-loop Inv-loop μ-loop → Planes
+planes l = triple (l .loop .c1) (l .loop .c2) (l .loop .c3)
 
-cast-h : tie.Need-cast-h
+-- the next band
+ready : (i : tie.Then1 Inv-loop μ-loop) → let l = i .before .before in let s = start l .args in BandReady (s .bands) (s .settings) (now (s .choices)) (s .k) (l .loop .band) (planes l)
+ready i =
+    let l = i .before .before in
+    let a = start l in
+    record {
+      fit = a .pre .fit;
+      begins = omega (arith, i .before .rows-before .ensures, i .if1 .taken);
+      planes = rows-ready (l .loop .inv .1) (omega arith) (a .pre .before) (a .pre .after);
+    }
+
+-- the planes keep their lengths
+long : (l : tie.At-loop Inv-loop μ-loop) (c : Plane) → length (get (planes l) c) ≡ length (get (triple (now (start l .args .c1)) (now (start l .args .c2)) (now (start l .args .c3))) c)
+long l = rows-long (l .loop .inv .1)
+
+cast-h : tie.Need-cast-h Inv-loop μ-loop
 cast-h c = search needs
 
-filter-at-requires : tie.Need-filter-at-requires
-filter-at-requires c κs = let a = c .before .before in omega (arith, fit a .count, place a)
+loop-holds : tie.Need-loop-holds Inv-loop μ-loop
+loop-holds c = (omega arith, rows-none _ (omega arith))
 
-filter-at-requires-2 : tie.Need-filter-at-requires-2
-filter-at-requires-2 c κs =
-    let a = c .before .before .before .before .before in
-    omega (arith, fit a .count ∙ ap (λ (t : ℕ). places (steps t)) (third c .0))
+rows-before-requires : tie.Need-rows-before-requires Inv-loop μ-loop
+rows-before-requires c κs = c .loop .inv .0
 
-lift-quarter-requires : tie.Need-lift-quarter-requires
-lift-quarter-requires c κs =
-    let g = c .before .before .before in
-    let f = g .before .before .before in
-    let a = f .before .before .before in
-    let r = a .pre .planes in
-    record {
-      depth = a .pre .depth;
-      first-filter = omega (arith, f .filter-at .ensures, fit a .filters (a .args .k));
-      second-filter = omega (arith, g .filter-at2 .ensures, fit a .filters 3);
-      order = omega arith;
-      rows = omega arith;
-      first-size = r .size C1;
-      second-size = r .size C3;
-      changed-size = r .size C2;
-      first = r .small C1;
-      second = r .small C3;
-      changed = r .small C2;
-    }
+lift-band-requires : tie.Need-lift-band-requires Inv-loop μ-loop
+lift-band-requires c κs = ready (c .before .before .before)
 
-lift-plane-requires : tie.Need-lift-plane-requires
-lift-plane-requires c κs =
-    let f = c .before .before .before .before .before in
-    let a = f .before .before .before in
-    record {
-      place = place a;
-      depth = a .pre .depth;
-      filter = omega (arith, f .filter-at .ensures, fit a .filters (a .args .k));
-      order = omega arith;
-      rows = omega arith;
-      planes = a .pre .planes;
-    }
+add-band : tie.Need-add-band Inv-loop μ-loop
+add-band c =
+    let m = band-most (ready (c .before .before .before .before .before .before .before)) in
+    search needs
 
-returns : tie.Need-returns
+loop-less : tie.Need-loop-less Inv-loop μ-loop
+loop-less c =
+    let m = band-most (ready (c .before .before .before .before .before .before .before)) in
+    search needs
+
+loop-again : tie.Need-loop-again Inv-loop μ-loop
+loop-again c =
+    let r = c .before .before .before in
+    let i = r .before .before .before .before in
+    let l = i .before .before in
+    let a = start l in
+    let m = ready i in
+    (omega (arith, band-most m), rows-more (l .loop .inv .1) (step-apart (a .args .settings .transform) (a .args .k) (a .args .back) (omega (arith, a .pre .fit .last))) (rows-order m) (r .lift-band .ensures))
+
+same-length : tie.Need-same-length Inv-loop μ-loop
+same-length c = long (c .before .before) C1
+
+same-length-2 : tie.Need-same-length-2 Inv-loop μ-loop
+same-length-2 c = long (c .before .before) C2
+
+same-length-3 : tie.Need-same-length-3 Inv-loop μ-loop
+same-length-3 c = long (c .before .before) C3
+
+returns : tie.Need-returns Inv-loop μ-loop
 returns c =
-    let q = c .before in
-    let g = q .before .before .before .before in
-    let f = g .before .before .before in
-    let a = f .before .before .before in
-    let s = a .args in
-    ap (λ (x : List ℤ). triple (now (s .c1)) x (now (s .c3))) (changed-rows (s .settings .width) (s .settings .height) (a .pre .planes .size C2) (q .lift-quarter .ensures))
-    ∙ quarter-step (s .form) (s .settings) (now (s .choices)) (planes a) (s .settings .transform) (s .k) _ _ (third (g .before)) (f .filter-at .ensures) (g .filter-at2 .ensures) (s .back)
-
-returns-2 : tie.Need-returns-2
-returns-2 c =
-    let l = c .before .before .before in
-    let e = l .before .before .before .before in
-    let f = e .before .before in
-    let a = f .before .before .before in
-    let s = a .args in
-    let x = passAt (s .settings .transform) (s .k) in
-    rows-all (a .pre .planes .size) (l .lift-plane .ensures)
-    ∙ ap (λ (m : ℕ). put (planes a) (x .changed) (mapIndexed (passed (s .form) (s .settings) (s .back) m x (planes a)) 0 (get (planes a) (x .changed)))) (f .filter-at .ensures)
-    ∙ one-pass (s .form) (s .settings) (now (s .choices)) (planes a) (s .settings .transform) (s .k) (a .pre .step) (e .if1 .left) (s .back)
+    let l = c .before .before in
+    let a = start l in
+    rows-done (l .loop .inv .1) (omega (arith, c .before .rows-before .ensures, c .if1 .left)) (a .pre .before .size)
 
 pub run-step-spec : {M : Type 1} → statement M
 run-step-spec =
     tie.close
     (tie.spec
+    Inv-loop
+    μ-loop
     cast-h
-    filter-at-requires
-    filter-at-requires-2
-    lift-quarter-requires
-    lift-plane-requires
-    (λ c. search needs) (λ c. search needs) (λ c. search needs)
-    returns
-    (λ c. search needs) (λ c. search needs) (λ c. search needs)
-    returns-2)
+    loop-holds
+    rows-before-requires
+    lift-band-requires
+    add-band
+    loop-less
+    loop-again
+    same-length
+    same-length-2
+    same-length-3
+    returns)

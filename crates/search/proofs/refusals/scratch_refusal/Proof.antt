@@ -7,6 +7,7 @@ use Rattle.stage.specs.declared.Plane.the-variants.{C1}
 use Rattle.stage.specs.Answers.{Test, _else_, refusal}
 use Rattle.stage.specs.Planes.{triple}
 use Rattle.stage.specs.declared.Form.the-variants.{Plain}
+use Rattle.stage.specs.declared.Bands.the-variants.{One}
 use Rattle.stage.specs.Transform.{settingsTests}
 use Rattle.stage.specs.Search.{allAtLeast, scratchFits}
 use Rattle.stage.proofs.Answers.{Holds, refusal-holds, refusal-first, refusal-past}
@@ -15,16 +16,16 @@ use Rattle.search.proofs.refusals.scratch_refusal.Statement.{statement}
 use Rattle.search.proofs.refusals.scratch_refusal.Tie as tie
 
 abbrev first : tie.Start → List Test
-first s = settingsTests Plain (s .args .settings) (s .args .choices) (triple (s .args .n1) (s .args .n2) (s .args .n3))
+first s = settingsTests Plain One (s .args .settings) (s .args .choices) (triple (s .args .n1) (s .args .n2) (s .args .n3))
 
 abbrev fits : tie.Start → Bool
 fits s = scratchFits (s .args .settings) (triple (s .args .m1) (s .args .m2) (s .args .m3)) (s .args .counters)
 
 past : (e : tie.Else1) → Holds (first (e .before .before))
-past e = refusal-holds (first (e .before .before)) (tt, (tt, (tt, (tt, (tt, (tt, tt)))))) (sym (e .before .refusal .ensures) ∙ e .if1 .left)
+past e = refusal-holds (first (e .before .before)) (tt, (tt, (tt, (tt, (tt, (tt, (tt, tt))))))) (sym (e .before .refusal .ensures) ∙ e .if1 .left)
 
-valid : (e : tie.Else1) → let a = e .before .before .args in ValidSettings Plain (a .settings) (a .choices) (triple (a .n1) (a .n2) (a .n3))
-valid e = let a = e .before .before .args in settings-iff Plain (a .settings) (a .choices) (triple (a .n1) (a .n2) (a .n3)) .0 (past e)
+valid : (e : tie.Else1) → let a = e .before .before .args in ValidSettings Plain One (a .settings) (a .choices) (triple (a .n1) (a .n2) (a .n3))
+valid e = let a = e .before .before .args in settings-iff Plain One (a .settings) (a .choices) (triple (a .n1) (a .n2) (a .n3)) .0 (past e)
 
 refusal-requires : tie.Need-refusal-requires
 refusal-requires c κs = search needs

@@ -8,8 +8,7 @@ use lib.ListN.{length, drop}
 use lib.Seq.{drop-length}
 use borrow.Author.Tests.{eq-eqb, ne-eqb}
 use denote.Ref.{now}
-use Rattle.stage.specs.Steps.{steps, places}
-use Rattle.stage.specs.Transform.{allFilters, countFits}
+use Rattle.stage.specs.Transform.{allFilters, choiceCount, countFits}
 use Rattle.transform.proofs.Refusals.{choice-above, choice-within}
 use Rattle.transform.proofs.settings.choices_fit.Statement.{statement}
 use Rattle.transform.proofs.settings.choices_fit.Tie as tie
@@ -20,13 +19,13 @@ Inv-loop choices i₀ i = (i ≤ length choices) × (allFilters choices ≡ allF
 abbrev μ-loop : tie.MeasureT-loop
 μ-loop choices i₀ i = length choices - i
 
-places-requires : tie.Need-places-requires Inv-loop μ-loop
-places-requires c κs = search needs
+choice-count-requires : tie.Need-choice-count-requires Inv-loop μ-loop
+choice-count-requires c κs = search needs
 
 returns : tie.Need-returns Inv-loop μ-loop
 returns c =
     let s = c .before .before .before .args in
-    sym (rw (ne-eqb (length (now (s .choices))) (places (steps (s .settings .transform))) (λ e. c .if1 .taken (e ∙ sym (c .before .places .ensures)))))
+    sym (rw (ne-eqb (length (now (s .choices))) (choiceCount (s .bands) (s .settings)) (λ e. c .if1 .taken (e ∙ sym (c .before .choice-count .ensures)))))
 
 loop-holds : tie.Need-loop-holds Inv-loop μ-loop
 loop-holds c = search needs
@@ -35,8 +34,8 @@ shared-slice-read-if2 : tie.Need-shared-slice-read-if2 Inv-loop μ-loop
 shared-slice-read-if2 c = search needs
 
 -- the number of choices is right
-as-many : (c : tie.Else1 Inv-loop μ-loop) → let s = c .before .before .before .args in countFits (s .settings) (length (now (s .choices))) ≡ true
-as-many c = eq-eqb _ _ (c .if1 .left ∙ c .before .places .ensures)
+as-many : (c : tie.Else1 Inv-loop μ-loop) → let s = c .before .before .before .args in countFits (s .bands) (s .settings) (length (now (s .choices))) ≡ true
+as-many c = eq-eqb _ _ (c .if1 .left ∙ c .before .choice-count .ensures)
 
 fit-parts : {a b x : Bool} → a ≡ true → b ≡ x → (a && b) ≡ x
 fit-parts e f = rw (e, f)
@@ -73,7 +72,7 @@ choices-fit-spec =
     (tie.spec
     Inv-loop
     μ-loop
-    places-requires
+    choice-count-requires
     returns
     loop-holds
     shared-slice-read-if2

@@ -1,58 +1,49 @@
 use borrow.Author.Needs.{needs}
-use mathlib.Core.Path.{_∙_}
+use mathlib.Core.Path.{refl}
 use Prim.Native.Nat.{_*_, _≤_}
 use native.Mathlib.Nat.{mul-le-mul}
 use native.Mathlib.Omega.{arith}
 use lib.Dec.{leb}
-use Rattle.transform.proofs.Refusals.{first-same}
+use Rattle.transform.proofs.Refusals.{test-made}
 use Rattle.transform.proofs.settings.refusal.Statement.{statement}
 use Rattle.transform.proofs.settings.refusal.Tie as tie
 
-is-sized-requires : tie.Need-is-sized-requires
-is-sized-requires c κs = search needs
-
-are-depths-requires : tie.Need-are-depths-requires
-are-depths-requires c κs = search needs
-
-depths-suit-requires : tie.Need-depths-suit-requires
-depths-suit-requires c κs = search needs
-
-cast-all-equal : tie.Need-cast-all-equal
-cast-all-equal c = search needs
-
-cast-all-equal-2 : tie.Need-cast-all-equal-2
-cast-all-equal-2 c = search needs
-
-mul-all-equal : tie.Need-mul-all-equal
-mul-all-equal c =
-    let s = c .before .before .before .before .before .before .args .settings in
+mul-pixels : tie.Need-mul-pixels
+mul-pixels c =
+    let s = c .before .before .args .settings in
     let m : s .width * s .height ≤ 4294967295 * 4294967295 = mul-le-mul {n₁ = s .width} {m₁ = s .height} {n₂ = 4294967295} {m₂ = 4294967295} (omega arith) (omega arith) in
     record { fits = omega arith }
 
-all-equal-requires : tie.Need-all-equal-requires
-all-equal-requires c κs = search needs
-
-first-refusal-requires : tie.Need-first-refusal-requires
-first-refusal-requires c κs = search needs
-
 returns : tie.Need-returns
 returns c =
-    let d = c .before .before .before .before .before in
-    let b = d .before in
-    let s = b .before .before .args in
-    c .first-refusal .ensures
-    ∙ first-same (leb (s .settings .transform) 3) (s .choices) (b .before .is-sized .ensures) (b .are-depths .ensures) (d .depths-suit .ensures) (c .before .all-equal .ensures)
+    let u6 = c .before .before in
+    let u5 = u6 .before .before in
+    let u4 = u5 .before .before in
+    let u3 = u4 .before .before in
+    let u2 = u3 .before .before in
+    let u1 = u2 .before in
+    let s = u1 .before .before .before .before .args in
+    test-made 2 (c .before .is-sized .ensures)
+    (test-made 5 (u6 .before .are-depths .ensures)
+    (test-made 16 (u5 .before .depths-suit .ensures)
+    (test-made {made = leb (s .settings .transform) 3} 6 refl
+    (test-made 17 (u3 .before .bands-suit .ensures)
+    (test-made {made = s .choices} 7 refl
+    (test-made 8 (u1 .before .all-equal .ensures) refl (u1 .select .ensures))
+    (u2 .select2 .ensures))
+    (u3 .select3 .ensures))
+    (u4 .select4 .ensures))
+    (u5 .select5 .ensures))
+    (u6 .select6 .ensures))
+    (c .select7 .ensures)
 
 pub refusal-spec : {M : Type 1} → statement M
 refusal-spec =
     tie.close
     (tie.spec
-    is-sized-requires
-    are-depths-requires
-    depths-suit-requires
-    cast-all-equal
-    cast-all-equal-2
-    mul-all-equal
-    all-equal-requires
-    first-refusal-requires
+    (λ c. search needs) (λ c. search needs)
+    mul-pixels
+    (λ c κs. search needs) (λ c κs. search needs) (λ c κs. search needs) (λ c κs. search needs)
+    (λ c κs. search needs) (λ c κs. search needs) (λ c κs. search needs) (λ c κs. search needs)
+    (λ c κs. search needs) (λ c κs. search needs) (λ c κs. search needs) (λ c κs. search needs)
     returns)

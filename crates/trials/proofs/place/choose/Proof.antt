@@ -7,6 +7,7 @@ use lib.ListN.{length, getD, set, length-set}
 use lib.Seq.{set-getD}
 use denote.Ref.{now}
 use Rattle.stage.specs.Planes.{Planes, triple}
+use Rattle.stage.specs.declared.Bands.the-variants.{One}
 use Rattle.stage.proofs.Choices.{choices}
 use Rattle.trials.specs.declared.place.Place.{Place}
 use Rattle.trials.specs.Trials.{trialEstimate, TrialReady, PlaceReady, Chosen}
@@ -45,7 +46,7 @@ at b =
     }
 
 known : (a : tie.Start Inv-loop μ-loop) → a .args .place < length (now (a .args .choices))
-known a = omega (arith, a .pre .place, choices (a .args .settings) (now (a .args .choices)) (a .pre .choices) .count)
+known a = omega (arith, a .pre .place, choices One (a .args .settings) (now (a .args .choices)) (a .pre .choices) .count)
 
 -- what is known of it
 ready : (b : tie.After-base-estimate Inv-loop μ-loop) → PlaceReady (start b .args .settings) (planes (start b)) (now (start b .args .choices)) (at b)

@@ -3,6 +3,7 @@ use mathlib.Core.Path.{refl, sym, ap, _∙_}
 use Prim.Native.Nat.{ℕ}
 use lib.ListN.{set}
 use denote.Ref.{now}
+use Rattle.stage.specs.declared.Bands.the-variants.{One}
 use Rattle.stage.specs.Planes.{Planes, triple}
 use Rattle.stage.proofs.Choices.{choices-set}
 use Rattle.trials.specs.Trials.{trialEstimate}
@@ -36,7 +37,7 @@ trial-requires c κs =
     let p = s .pre in
     record {
       trial = p .trial;
-      choices = choices-set (a .settings) (now (a .choices)) (p .place .choices) (a .at .place) (a .filter) (p .filter);
+      choices = choices-set One (a .settings) (now (a .choices)) (p .place .choices) (a .at .place) (a .filter) (p .filter);
       base = p .place .base;
     }
 

@@ -8,6 +8,7 @@ use denote.Ref.{now}
 use Rattle.integers.specs.Slices.{slice}
 use Rattle.stage.specs.declared.Plane.the-variants.{C1}
 use Rattle.stage.specs.declared.Form.the-variants.{Plain}
+use Rattle.stage.specs.declared.Bands.the-variants.{One}
 use Rattle.stage.specs.Planes.{Planes, triple}
 use Rattle.stage.specs.Steps.{Step, steps, places, undo}
 use Rattle.stage.specs.Transform.{setup}
@@ -47,18 +48,18 @@ list a = steps (a .args .settings .transform)
 
 -- the planes as they stand in the loop
 at : (l : tie.At-loop Inv-loop μ-loop) → AtStep (start l .args .settings) (l .loop .from) (triple (l .loop .c1) (l .loop .c2) (l .loop .c3))
-at l = at-next Plain tt (start l .pre .trial .planes) (l .loop .from) (l .loop .choices) _ (omega arith) (l .loop .inv .1 .planes)
+at l = at-next Plain One tt (start l .pre .trial .planes) (l .loop .from) (l .loop .choices) _ (omega arith) (l .loop .inv .1 .planes)
 
 -- as many places as choices
 as-many : (a : tie.Start Inv-loop μ-loop) → length (now (a .args .choices)) ≡ places (list a)
-as-many a = choices (a .args .settings) (now (a .args .choices)) (a .pre .choices) .count
+as-many a = choices One (a .args .settings) (now (a .args .choices)) (a .pre .choices) .count
 
 place : (i : tie.In-loop Inv-loop μ-loop) → i .before .loop .place < places (list (start (i .before)))
 place i = let l = i .before in omega (arith, i .loop-test .taken, l .loop .inv .0 .end-is, as-many (start l))
 
 -- the steps up to the place's own
 fit : (o : tie.After-step-of Inv-loop μ-loop) → let l = o .before .before in
-    StepsFit (start l .args .settings) (l .loop .choices) (l .loop .from) (o .step-of .result)
+    StepsFit One (start l .args .settings) (l .loop .choices) (l .loop .from) (o .step-of .result)
 fit o =
     let l = o .before .before in
     let a = start l in
@@ -67,6 +68,7 @@ fit o =
       depth = a .pre .trial .allowed .depth-most C1;
       order = omega (arith, o .step-of .ensures, l .loop .inv .1 .order (place (o .before)));
       last = omega (arith, o .step-of .ensures, step-inside (list a) (l .loop .place));
+      bands = tt;
       choices = l .loop .inv .1 .fit;
     }
 
@@ -85,7 +87,7 @@ run-steps-requires : tie.Need-run-steps-requires Inv-loop μ-loop
 run-steps-requires c κs =
     let o = c .before .before .before .before in
     let l = o .before .before in
-    ready-run (start l .pre .trial .allowed .depth-most) Plain tt (fit o) (at l)
+    ready-run (start l .pre .trial .allowed .depth-most) Plain One tt (fit o) (at l)
 
 abbrev stepped : tie.After-run-steps Inv-loop μ-loop → tie.After-step-of Inv-loop μ-loop
 stepped r = r .before .before .before .before .before
@@ -113,7 +115,7 @@ choose-requires c κs =
       trial = record {
         allowed = a .pre .trial .allowed;
         step = step-inside (list a) (l .loop .place);
-        planes = at-next Plain tt (a .pre .trial .planes) k (l .loop .choices) _ (omega arith) (arrived r);
+        planes = at-next Plain One tt (a .pre .trial .planes) k (l .loop .choices) _ (omega arith) (arrived r);
         counters = v .counters;
         logarithms = a .pre .trial .logarithms;
       };
@@ -155,7 +157,7 @@ undo-steps-requires c κs =
     let a = start l in
     let v = l .loop .inv .1 in
     ready-undo (a .pre .trial .allowed .depth-most)
-    (record { transform = a .pre .trial .allowed .transform-most; depth = a .pre .trial .allowed .depth-most C1; order = omega arith; last = v .inside; choices = v .fit }) (a .pre .trial .planes) (v .planes)
+    (record { transform = a .pre .trial .allowed .transform-most; depth = a .pre .trial .allowed .depth-most C1; order = omega arith; last = v .inside; bands = tt; choices = v .fit }) (a .pre .trial .planes) (v .planes)
 
 -- the planes with all steps undone
 restored : (u : tie.After-undo-steps Inv-loop μ-loop) → let a = start (u .before .before .before .before .before .before) in let m = u .undo-steps .last in
@@ -165,7 +167,7 @@ restored u =
     let a = start l in
     let s = a .args .settings in
     let ψ = l .loop .choices in
-    u .undo-steps .ensures ∙ ap (undo (setup Plain s ψ) (slice (list a) 0 (l .loop .from))) (l .loop .inv .1 .planes) ∙ slice-undone s ψ 0 (l .loop .from) (planes a)
+    u .undo-steps .ensures ∙ ap (undo (setup Plain One s ψ) (slice (list a) 0 (l .loop .from))) (l .loop .inv .1 .planes) ∙ slice-undone One s ψ 0 (l .loop .from) (planes a)
 
 returns : tie.Need-returns Inv-loop μ-loop
 returns c =

@@ -7,6 +7,7 @@ use denote.Ref.{now}
 use Rattle.stage.specs.Planes.{Planes, triple}
 use Rattle.stage.specs.Steps.{steps, places}
 use Rattle.stage.specs.Search.{rounds, choicesEstimate}
+use Rattle.stage.specs.declared.Bands.the-variants.{One}
 use Rattle.stage.proofs.Choices.{choices}
 use Rattle.trials.proofs.Rounds.{AfterRounds, first-round, next-round}
 use Rattle.trials.proofs.round.rounds.Statement.{statement}
@@ -73,7 +74,7 @@ same-length-4 c =
     let l = c .before in
     let a = start l in
     let s = a .args .settings in
-    choices s (l .loop .choices) (l .loop .inv .2 .fit) .count ∙ sym (choices s (now (a .args .choices)) (a .pre .choices) .count)
+    choices One s (l .loop .choices) (l .loop .inv .2 .fit) .count ∙ sym (choices One s (now (a .args .choices)) (a .pre .choices) .count)
 
 same-length-5 : tie.Need-same-length-5 Inv-loop μ-loop
 same-length-5 c = c .before .loop .inv .1

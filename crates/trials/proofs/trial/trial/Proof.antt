@@ -3,6 +3,7 @@ use native.Mathlib.Omega.{arith}
 use denote.Ref.{now}
 use Rattle.stage.specs.declared.Plane.the-variants.{C1}
 use Rattle.stage.specs.declared.Form.the-variants.{Plain}
+use Rattle.stage.specs.declared.Bands.the-variants.{One}
 use Rattle.stage.specs.Planes.{Planes, triple}
 use Rattle.lifting.specs.Steps.{StepsFit, AtStep}
 use Rattle.lifting.proofs.Readiness.{at-next, ready-run}
@@ -29,12 +30,13 @@ abbrev chosen : tie.After-part-estimate → tie.After-changed
 chosen e = e .before .before .before .before .before
 
 -- all steps from the given one on
-fit : (n : tie.After-step-count) → StepsFit (start n .args .settings) (now (start n .args .choices)) (start n .args .step) (n .step-count .result)
+fit : (n : tie.After-step-count) → StepsFit One (start n .args .settings) (now (start n .args .choices)) (start n .args .step) (n .step-count .result)
 fit n =
     let p = start n .pre in
     record {
       transform = p .trial .allowed .transform-most;
       depth = p .trial .allowed .depth-most C1;
+      bands = tt;
       order = omega (arith, n .step-count .ensures, p .trial .step);
       last = omega (arith, n .step-count .ensures);
       choices = p .choices;
@@ -46,7 +48,7 @@ finished : (r : tie.After-run-steps) → let l = r .run-steps .last in
 finished r =
     let n = counted r in
     let s = start n in
-    at-next Plain tt (s .pre .trial .planes) (n .step-count .result) (now (s .args .choices)) _ (fit n .order) (r .run-steps .ensures)
+    at-next Plain One tt (s .pre .trial .planes) (n .step-count .result) (now (s .args .choices)) _ (fit n .order) (r .run-steps .ensures)
 
 step-count-requires : tie.Need-step-count-requires
 step-count-requires c κs = c .before .before .pre .trial .allowed .transform-most
@@ -55,7 +57,7 @@ run-steps-requires : tie.Need-run-steps-requires
 run-steps-requires c κs =
     let n = c .before .before .before in
     let p = start n .pre in
-    ready-run (p .trial .allowed .depth-most) Plain tt (fit n) (p .trial .planes)
+    ready-run (p .trial .allowed .depth-most) Plain One tt (fit n) (p .trial .planes)
 
 changed-requires : tie.Need-changed-requires
 changed-requires c κs = start (counted (c .before .before .before)) .pre .trial .allowed .transform-most
