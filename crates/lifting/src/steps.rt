@@ -13,8 +13,7 @@ use crate::passes::places;
 use crate::rows::lift_plane;
 use crate::rows::lift_quarter;
 use stage::Bands;
-use stage::Form;
-use stage::Settings;
+use stage::Plan;
 
 // How many rows a band has; the last one may have fewer.
 fn band_rows(bands: Bands, height: u32) -> usize
@@ -52,17 +51,18 @@ fn lift_band(
     c1: &mut [i32],
     c2: &mut [i32],
     c3: &mut [i32],
-    settings: Settings,
-    form: Form,
-    bands: Bands,
+    plan: Plan,
     choices: &[u8],
     k: usize,
     back: bool,
     band: usize,
 )
-    requires { ⌜ BandReady bands settings (now choices) k band (triple (now c1) (now c2) (now c3)) ⌝ }
-    ensures { λ _. ⌜ BandChanged form bands settings (now (choices .entry)) k back band (triple (now (c1 .entry)) (now (c2 .entry)) (now (c3 .entry))) (triple (now (c1 .exit)) (now (c2 .exit)) (now (c3 .exit))) ⌝ }
+    requires { ⌜ BandReady (plan .bands) (plan .settings) (now choices) k band (triple (now c1) (now c2) (now c3)) ⌝ }
+    ensures { λ _. ⌜ BandChanged (plan .form) (plan .bands) (plan .settings) (now (choices .entry)) k back band (triple (now (c1 .entry)) (now (c2 .entry)) (now (c3 .entry))) (triple (now (c1 .exit)) (now (c2 .exit)) (now (c3 .exit))) ⌝ }
 {
+    let settings = plan.settings;
+    let form = plan.form;
+    let bands = plan.bands;
     let from = rows_before(bands, settings.height, band);
     let to = rows_before(bands, settings.height, band + 1);
     let first = places(settings.transform) * band;
@@ -80,20 +80,19 @@ fn run_step(
     c1: &mut [i32],
     c2: &mut [i32],
     c3: &mut [i32],
-    settings: Settings,
-    form: Form,
-    bands: Bands,
+    plan: Plan,
     choices: &[u8],
     k: usize,
     back: bool,
 )
-    requires { ⌜ StepReady form bands settings (now choices) k back (triple (now c1) (now c2) (now c3)) ⌝ }
-    ensures { λ _. ⌜ triple (now (c1 .exit)) (now (c2 .exit)) (now (c3 .exit)) ≡ step (setup form bands settings (now (choices .entry))) (reversedIf back (stepAt (settings .transform) k)) (triple (now (c1 .entry)) (now (c2 .entry)) (now (c3 .entry))) ⌝ }
+    requires { ⌜ StepReady (plan .form) (plan .bands) (plan .settings) (now choices) k back (triple (now c1) (now c2) (now c3)) ⌝ }
+    ensures { λ _. ⌜ triple (now (c1 .exit)) (now (c2 .exit)) (now (c3 .exit)) ≡ step (setup (plan .form) (plan .bands) (plan .settings) (now (choices .entry))) (reversedIf back (stepAt (plan .settings .transform) k)) (triple (now (c1 .entry)) (now (c2 .entry)) (now (c3 .entry))) ⌝ }
 {
-    let h = settings.height as usize;
+    let height = plan.settings.height;
+    let bands = plan.bands;
     let mut band = 0;
-    while rows_before(bands, settings.height, band) < h {
-        lift_band(c1, c2, c3, settings, form, bands, choices, k, back, band);
+    while rows_before(bands, height, band) < height as usize {
+        lift_band(c1, c2, c3, plan, choices, k, back, band);
         band += 1;
     }
 }
@@ -103,19 +102,17 @@ pub fn run_steps(
     c1: &mut [i32],
     c2: &mut [i32],
     c3: &mut [i32],
-    settings: Settings,
-    form: Form,
-    bands: Bands,
+    plan: Plan,
     choices: &[u8],
     from: usize,
     to: usize,
 )
-    requires { ⌜ RunReady form bands settings (now choices) from to (triple (now c1) (now c2) (now c3)) ⌝ }
-    ensures { λ _. ⌜ triple (now (c1 .exit)) (now (c2 .exit)) (now (c3 .exit)) ≡ run (setup form bands settings (now (choices .entry))) (slice (steps (settings .transform)) from to) (triple (now (c1 .entry)) (now (c2 .entry)) (now (c3 .entry))) ⌝ }
+    requires { ⌜ RunReady (plan .form) (plan .bands) (plan .settings) (now choices) from to (triple (now c1) (now c2) (now c3)) ⌝ }
+    ensures { λ _. ⌜ triple (now (c1 .exit)) (now (c2 .exit)) (now (c3 .exit)) ≡ run (setup (plan .form) (plan .bands) (plan .settings) (now (choices .entry))) (slice (steps (plan .settings .transform)) from to) (triple (now (c1 .entry)) (now (c2 .entry)) (now (c3 .entry))) ⌝ }
 {
     let mut k = from;
     while k < to {
-        run_step(c1, c2, c3, settings, form, bands, choices, k, false);
+        run_step(c1, c2, c3, plan, choices, k, false);
         k += 1;
     }
 }
@@ -125,19 +122,17 @@ pub fn undo_steps(
     c1: &mut [i32],
     c2: &mut [i32],
     c3: &mut [i32],
-    settings: Settings,
-    form: Form,
-    bands: Bands,
+    plan: Plan,
     choices: &[u8],
     from: usize,
     to: usize,
 )
-    requires { ⌜ UndoReady form bands settings (now choices) from to (triple (now c1) (now c2) (now c3)) ⌝ }
-    ensures { λ _. ⌜ triple (now (c1 .exit)) (now (c2 .exit)) (now (c3 .exit)) ≡ undo (setup form bands settings (now (choices .entry))) (slice (steps (settings .transform)) from to) (triple (now (c1 .entry)) (now (c2 .entry)) (now (c3 .entry))) ⌝ }
+    requires { ⌜ UndoReady (plan .form) (plan .bands) (plan .settings) (now choices) from to (triple (now c1) (now c2) (now c3)) ⌝ }
+    ensures { λ _. ⌜ triple (now (c1 .exit)) (now (c2 .exit)) (now (c3 .exit)) ≡ undo (setup (plan .form) (plan .bands) (plan .settings) (now (choices .entry))) (slice (steps (plan .settings .transform)) from to) (triple (now (c1 .entry)) (now (c2 .entry)) (now (c3 .entry))) ⌝ }
 {
     let mut k = to;
     while from < k {
         k -= 1;
-        run_step(c1, c2, c3, settings, form, bands, choices, k, true);
+        run_step(c1, c2, c3, plan, choices, k, true);
     }
 }

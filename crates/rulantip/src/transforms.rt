@@ -4,12 +4,25 @@ ghost use mathlib.Core.Path.{_≡_};
 ghost use Rattle.stage.specs.declared.Bands.the-variants.{One, Of};
 ghost use Rattle.stage.specs.declared.Form.the-variants.{Plain, Wrapped};
 ghost use Rattle.stage.specs.Planes.{triple};
-ghost use Rattle.stage.specs.Settings.{depthsOf, settingsOf};
+ghost use Rattle.stage.specs.Settings.{depthsOf, settingsOf, planOf};
 ghost use Rattle.stage.specs.Transform.{forward, inverse};
 ghost use Rattle.rulantip.specs.Returned.{returned, numbered};
 use crate::number;
 use crate::settings;
 use stage::Bands;
+use stage::Form;
+use stage::Plan;
+use stage::Settings;
+
+fn planned(settings: Settings, form: Form, bands: Bands) -> Plan
+    ensures { λ r. ⌜ r ≡ planOf settings form bands ⌝ }
+{
+    Plan {
+        settings: settings,
+        form: form,
+        bands: bands,
+    }
+}
 
 #[no_mangle]
 pub extern "C" fn rulantip_forward(
@@ -27,7 +40,13 @@ pub extern "C" fn rulantip_forward(
     ensures { λ r. ⌜ returned r (triple (now (c1 .exit)) (now (c2 .exit)) (now (c3 .exit))) ≡ numbered (forward Plain One (settingsOf width height (depthsOf depth1 depth2 depth3) transform) (now (choices .entry)) (triple (now (c1 .entry)) (now (c2 .entry)) (now (c3 .entry)))) ⌝ }
 {
     let settings = settings(width, height, depth1, depth2, depth3, transform);
-    number(transform::forward(settings, Bands::One, choices, c1, c2, c3))
+    number(transform::forward(
+        planned(settings, Form::Plain, Bands::One),
+        choices,
+        c1,
+        c2,
+        c3,
+    ))
 }
 
 #[no_mangle]
@@ -46,7 +65,13 @@ pub extern "C" fn rulantip_inverse(
     ensures { λ r. ⌜ returned r (triple (now (c1 .exit)) (now (c2 .exit)) (now (c3 .exit))) ≡ numbered (inverse Plain One (settingsOf width height (depthsOf depth1 depth2 depth3) transform) (now (choices .entry)) (triple (now (c1 .entry)) (now (c2 .entry)) (now (c3 .entry)))) ⌝ }
 {
     let settings = settings(width, height, depth1, depth2, depth3, transform);
-    number(transform::inverse(settings, Bands::One, choices, c1, c2, c3))
+    number(transform::inverse(
+        planned(settings, Form::Plain, Bands::One),
+        choices,
+        c1,
+        c2,
+        c3,
+    ))
 }
 
 #[no_mangle]
@@ -65,7 +90,13 @@ pub extern "C" fn rulantip_forward_wrapped(
     ensures { λ r. ⌜ returned r (triple (now (c1 .exit)) (now (c2 .exit)) (now (c3 .exit))) ≡ numbered (forward Wrapped One (settingsOf width height (depthsOf depth1 depth2 depth3) transform) (now (choices .entry)) (triple (now (c1 .entry)) (now (c2 .entry)) (now (c3 .entry)))) ⌝ }
 {
     let settings = settings(width, height, depth1, depth2, depth3, transform);
-    number(transform::forward_wrapped(settings, Bands::One, choices, c1, c2, c3))
+    number(transform::forward(
+        planned(settings, Form::Wrapped, Bands::One),
+        choices,
+        c1,
+        c2,
+        c3,
+    ))
 }
 
 #[no_mangle]
@@ -84,7 +115,13 @@ pub extern "C" fn rulantip_inverse_wrapped(
     ensures { λ r. ⌜ returned r (triple (now (c1 .exit)) (now (c2 .exit)) (now (c3 .exit))) ≡ numbered (inverse Wrapped One (settingsOf width height (depthsOf depth1 depth2 depth3) transform) (now (choices .entry)) (triple (now (c1 .entry)) (now (c2 .entry)) (now (c3 .entry)))) ⌝ }
 {
     let settings = settings(width, height, depth1, depth2, depth3, transform);
-    number(transform::inverse_wrapped(settings, Bands::One, choices, c1, c2, c3))
+    number(transform::inverse(
+        planned(settings, Form::Wrapped, Bands::One),
+        choices,
+        c1,
+        c2,
+        c3,
+    ))
 }
 
 #[no_mangle]
@@ -104,7 +141,8 @@ pub extern "C" fn rulantip_forward_banded(
     ensures { λ r. ⌜ returned r (triple (now (c1 .exit)) (now (c2 .exit)) (now (c3 .exit))) ≡ numbered (forward Plain (Of «band_height») (settingsOf width height (depthsOf depth1 depth2 depth3) transform) (now (choices .entry)) (triple (now (c1 .entry)) (now (c2 .entry)) (now (c3 .entry)))) ⌝ }
 {
     let settings = settings(width, height, depth1, depth2, depth3, transform);
-    number(transform::forward(settings, Bands::Of(band_height), choices, c1, c2, c3))
+    let bands = Bands::Of(band_height);
+    number(transform::forward(planned(settings, Form::Plain, bands), choices, c1, c2, c3))
 }
 
 #[no_mangle]
@@ -124,7 +162,8 @@ pub extern "C" fn rulantip_inverse_banded(
     ensures { λ r. ⌜ returned r (triple (now (c1 .exit)) (now (c2 .exit)) (now (c3 .exit))) ≡ numbered (inverse Plain (Of «band_height») (settingsOf width height (depthsOf depth1 depth2 depth3) transform) (now (choices .entry)) (triple (now (c1 .entry)) (now (c2 .entry)) (now (c3 .entry)))) ⌝ }
 {
     let settings = settings(width, height, depth1, depth2, depth3, transform);
-    number(transform::inverse(settings, Bands::Of(band_height), choices, c1, c2, c3))
+    let bands = Bands::Of(band_height);
+    number(transform::inverse(planned(settings, Form::Plain, bands), choices, c1, c2, c3))
 }
 
 #[no_mangle]
@@ -144,7 +183,8 @@ pub extern "C" fn rulantip_forward_wrapped_banded(
     ensures { λ r. ⌜ returned r (triple (now (c1 .exit)) (now (c2 .exit)) (now (c3 .exit))) ≡ numbered (forward Wrapped (Of «band_height») (settingsOf width height (depthsOf depth1 depth2 depth3) transform) (now (choices .entry)) (triple (now (c1 .entry)) (now (c2 .entry)) (now (c3 .entry)))) ⌝ }
 {
     let settings = settings(width, height, depth1, depth2, depth3, transform);
-    number(transform::forward_wrapped(settings, Bands::Of(band_height), choices, c1, c2, c3))
+    let bands = Bands::Of(band_height);
+    number(transform::forward(planned(settings, Form::Wrapped, bands), choices, c1, c2, c3))
 }
 
 #[no_mangle]
@@ -164,5 +204,6 @@ pub extern "C" fn rulantip_inverse_wrapped_banded(
     ensures { λ r. ⌜ returned r (triple (now (c1 .exit)) (now (c2 .exit)) (now (c3 .exit))) ≡ numbered (inverse Wrapped (Of «band_height») (settingsOf width height (depthsOf depth1 depth2 depth3) transform) (now (choices .entry)) (triple (now (c1 .entry)) (now (c2 .entry)) (now (c3 .entry)))) ⌝ }
 {
     let settings = settings(width, height, depth1, depth2, depth3, transform);
-    number(transform::inverse_wrapped(settings, Bands::Of(band_height), choices, c1, c2, c3))
+    let bands = Bands::Of(band_height);
+    number(transform::inverse(planned(settings, Form::Wrapped, bands), choices, c1, c2, c3))
 }

@@ -8,6 +8,7 @@ ghost use Rattle.stage.specs.Search.{countersNeeded, allAtLeast, scratchTests};
 use ranges::counters_needed;
 use stage::Bands;
 use stage::Form;
+use stage::Plan;
 use stage::Settings;
 use transform::settings::refusal;
 use transform::settings::select;
@@ -41,7 +42,12 @@ pub fn scratch_refusal(
 ) -> u32
     ensures { λ r. ⌜ r ≡ refusal (scratchTests settings choices (triple n1 n2 n3) (triple m1 m2 m3) counters) ⌝ }
 {
-    let n = refusal(settings, Form::Plain, Bands::One, choices, n1, n2, n3);
+    let plan = Plan {
+        settings: settings,
+        form: Form::Plain,
+        bands: Bands::One,
+    };
+    let n = refusal(plan, choices, n1, n2, n3);
     if n != 0 {
         return n;
     }

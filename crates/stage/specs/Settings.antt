@@ -14,6 +14,7 @@ pub use Rattle.stage.specs.declared.Form.{Form}
 pub use Rattle.stage.specs.declared.Form.the-variants.{Plain, Wrapped}
 pub use Rattle.stage.specs.declared.Bands.{Bands}
 pub use Rattle.stage.specs.declared.Bands.the-variants.{One, Of}
+pub use Rattle.stage.specs.declared.Plan.{Plan}
 use Rattle.stage.specs.Answers.{between}
 use Rattle.stage.specs.Planes.{Plane, C1, C2, C3}
 
@@ -26,6 +27,9 @@ each b = depthsOf b b b
 
 abbrev pub settingsOf : (width height : ℕ) (d : Depths) (transform : ℕ) → Settings
 settingsOf width height d transform = record { width = width; height = height; depths = d; transform = transform }
+
+abbrev pub planOf : Settings → Form → Bands → Plan
+planOf s κ β = record { settings = s; form = κ; bands = β }
 
 -- the depth of plane c
 abbrev pub depthAt : Settings → Plane → ℕ

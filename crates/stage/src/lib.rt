@@ -73,6 +73,13 @@ pub enum Bands {
     Of(u32),
 }
 
+// What a transform's steps run with but for the choices: the settings, how a result is kept, and where filters change.
+pub struct Plan {
+    pub settings: Settings,
+    pub form: Form,
+    pub bands: Bands,
+}
+
 // −below to above
 pub struct Range {
     pub below: u32,

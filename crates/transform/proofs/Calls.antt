@@ -57,9 +57,13 @@ module _ (β : Bands) (s : Settings) (φ : List ℕ) (p : Planes) (r : Answer) {
   unfolding forward
   picture-forward κ e = e .is
 
-  pub picture-inverse : PictureGives Wrapped β true s φ p r q → InverseGives Wrapped β s φ p r q
+  wrapped-inverse : PictureGives Wrapped β true s φ p r q → InverseGives Wrapped β s φ p r q
   unfolding inverse
-  picture-inverse e = e .is
+  wrapped-inverse e = e .is
+
+  pub picture-inverse : {κ : Form} → κ ≡ Wrapped → PictureGives κ β true s φ p r q → InverseGives κ β s φ p r q
+  picture-inverse k e =
+      subst (λ (κ : Form). InverseGives κ β s φ p r q) (sym k) (wrapped-inverse (subst (λ (κ : Form). PictureGives κ β true s φ p r q) k e))
 
 -- past the tests of the settings
 module _ (κ : Form) (β : Bands) (s : Settings) (φ : List ℕ) (p : Planes) (h : Holds (tests κ β s φ p)) where

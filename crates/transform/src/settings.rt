@@ -8,7 +8,7 @@ ghost use Rattle.stage.specs.Settings.{bandCount};
 ghost use Rattle.stage.specs.Transform.{choiceCount, choicesFit, settingsTests};
 use lifting::passes::places;
 use stage::Bands;
-use stage::Form;
+use stage::Plan;
 use stage::Settings;
 use stage::all_equal;
 use stage::are_depths;
@@ -64,17 +64,12 @@ pub fn select(b: bool, x: u32, y: u32) -> u32
 
 // The first setting that is refused, or 0. `choices` says whether the call's own test of the choices holds; n1, n2 and n3 are the
 // lengths of the planes. The tests are made from the last to the first, so that the first one's number stands.
-pub fn refusal(
-    settings: Settings,
-    form: Form,
-    bands: Bands,
-    choices: bool,
-    n1: usize,
-    n2: usize,
-    n3: usize,
-) -> u32
-    ensures { λ r. ⌜ r ≡ refusal (settingsTests form bands settings choices (triple n1 n2 n3)) ⌝ }
+pub fn refusal(plan: Plan, choices: bool, n1: usize, n2: usize, n3: usize) -> u32
+    ensures { λ r. ⌜ r ≡ refusal (settingsTests (plan .form) (plan .bands) (plan .settings) choices (triple n1 n2 n3)) ⌝ }
 {
+    let settings = plan.settings;
+    let form = plan.form;
+    let bands = plan.bands;
     let pixels = settings.width as usize * settings.height as usize;
     let mut n = select(all_equal(pixels, n1, n2, n3), 0, 8);
     n = select(choices, n, 7);

@@ -1,16 +1,14 @@
-// A generated picture through the calls of a form, in bands or not, and whether it comes back.
+// A generated picture through the calls, and whether it comes back.
 ghost use Rattle.stage.specs.Settings.{UpTo16};
-use crate::forms::back;
-use crate::forms::there;
 use crate::text::print_answer;
 use crate::text::print_planes;
 use case_pictures::is_filled;
 use case_pictures::levels;
 use case_text::print;
-use stage::Bands;
 use stage::Depths;
-use stage::Form;
-use stage::Settings;
+use stage::Plan;
+use transform::forward;
+use transform::inverse;
 
 // A picture's depths, and the generator's number before each of its planes.
 pub(crate) struct Generated {
@@ -34,25 +32,15 @@ pub(crate) fn print_compared(p: Generated, c1: &[i32], c2: &[i32], c3: &[i32])
     }
 }
 
-fn run(
-    form: Form,
-    bands: Bands,
-    s: Settings,
-    choices: &[u8],
-    c1: &mut [i32],
-    c2: &mut [i32],
-    c3: &mut [i32],
-) {
-    let a = there(form, bands, s, choices, c1, c2, c3);
+fn run(plan: Plan, choices: &[u8], c1: &mut [i32], c2: &mut [i32], c3: &mut [i32]) {
+    let a = forward(plan, choices, c1, c2, c3);
     print_answer(b"forward", a);
     print_planes(c1, c2, c3);
     print(b"\n");
 }
 
 pub(crate) fn undo(
-    form: Form,
-    bands: Bands,
-    s: Settings,
+    plan: Plan,
     p: Generated,
     choices: &[u8],
     c1: &mut [i32],
@@ -61,15 +49,13 @@ pub(crate) fn undo(
 )
     requires { ⌜ UpTo16 (p .depths) ⌝ }
 {
-    let a = back(form, bands, s, choices, c1, c2, c3);
+    let a = inverse(plan, choices, c1, c2, c3);
     print_answer(b"inverse", a);
     print_compared(p, c1, c2, c3);
 }
 
 pub(crate) fn there_and_back(
-    form: Form,
-    bands: Bands,
-    s: Settings,
+    plan: Plan,
     p: Generated,
     choices: &[u8],
     c1: &mut [i32],
@@ -78,6 +64,6 @@ pub(crate) fn there_and_back(
 )
     requires { ⌜ UpTo16 (p .depths) ⌝ }
 {
-    run(form, bands, s, choices, c1, c2, c3);
-    undo(form, bands, s, p, choices, c1, c2, c3);
+    run(plan, choices, c1, c2, c3);
+    undo(plan, p, choices, c1, c2, c3);
 }

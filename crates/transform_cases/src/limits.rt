@@ -1,6 +1,4 @@
 // The limits that 01 names, from both sides, a case of each other refusal, and null steps, in both forms.
-use crate::forms::back;
-use crate::forms::there;
 use crate::text::print_answer;
 use crate::text::print_choices;
 use crate::text::print_form;
@@ -9,8 +7,11 @@ use case_text::print;
 use stage::Bands;
 use stage::Depths;
 use stage::Form;
+use stage::Plan;
 use stage::Settings;
 use stage::each;
+use transform::forward;
+use transform::inverse;
 
 fn settings(width: u32, height: u32, depths: Depths, transform: u32) -> Settings {
     Settings {
@@ -18,6 +19,14 @@ fn settings(width: u32, height: u32, depths: Depths, transform: u32) -> Settings
         height: height,
         depths: depths,
         transform: transform,
+    }
+}
+
+fn without_bands(form: Form, s: Settings) -> Plan {
+    Plan {
+        settings: s,
+        form: form,
+        bands: Bands::One,
     }
 }
 
@@ -29,9 +38,12 @@ fn answers_in(form: Form, width: u32, height: u32, c1: &mut [i32], c2: &mut [i32
     print_form(form);
     print_answer(
         b" forward",
-        there(form, Bands::One, s, &choices, c1, c2, c3),
+        forward(without_bands(form, s), &choices, c1, c2, c3),
     );
-    print_answer(b" inverse", back(form, Bands::One, s, &choices, c1, c2, c3));
+    print_answer(
+        b" inverse",
+        inverse(without_bands(form, s), &choices, c1, c2, c3),
+    );
     print(b"\n");
 }
 
@@ -66,10 +78,10 @@ fn pixel_in(form: Form, s: Settings, choices: &[u8], red: i32, green: i32, blue:
     print(b" planes");
     print_planes(&c1, &c2, &c3);
     print_form(form);
-    let a = there(form, Bands::One, s, choices, &mut c1, &mut c2, &mut c3);
+    let a = forward(without_bands(form, s), choices, &mut c1, &mut c2, &mut c3);
     print_answer(b" forward", a);
     print_planes(&c1, &c2, &c3);
-    let b = back(form, Bands::One, s, choices, &mut c1, &mut c2, &mut c3);
+    let b = inverse(without_bands(form, s), choices, &mut c1, &mut c2, &mut c3);
     print_answer(b" inverse", b);
     print_planes(&c1, &c2, &c3);
     print(b"\n");

@@ -24,6 +24,7 @@ use stage::Answer;
 use stage::Bands;
 use stage::Depths;
 use stage::Form;
+use stage::Plan;
 use stage::Settings;
 use transform::forward;
 use transform::inverse;
@@ -48,30 +49,22 @@ fn replace_in(c1: &mut [i32], c2: &mut [i32], c3: &mut [i32], plane: u32, i: usi
 }
 
 // The inverse of damaged planes. What it accepts, as another picture goes there, is printed and run again.
-fn undo_damaged(
-    bands: Bands,
-    s: Settings,
-    choices: &[u8],
-    c1: &mut [i32],
-    c2: &mut [i32],
-    c3: &mut [i32],
-) {
-    let a = inverse(s, bands, choices, c1, c2, c3);
+fn undo_damaged(plan: Plan, choices: &[u8], c1: &mut [i32], c2: &mut [i32], c3: &mut [i32]) {
+    let a = inverse(plan, choices, c1, c2, c3);
     print_answer(b" inverse", a);
     let Answer::Done = a else {
         print(b"\n");
         return;
     };
     print_planes(c1, c2, c3);
-    let b = forward(s, bands, choices, c1, c2, c3);
+    let b = forward(plan, choices, c1, c2, c3);
     print_answer(b" forward", b);
     print(b"\n");
 }
 
 // Forward again; then the middle number of a finished plane is replaced by z, and put back when the inverse was tried.
 fn damage(
-    bands: Bands,
-    s: Settings,
+    plan: Plan,
     choices: &[u8],
     c1: &mut [i32],
     c2: &mut [i32],
@@ -79,13 +72,13 @@ fn damage(
     plane: u32,
     z: i32,
 ) {
-    forward(s, bands, choices, c1, c2, c3);
+    forward(plan, choices, c1, c2, c3);
     let middle = c1.len() / 2;
     print_field(b"plane", plane);
     print(b" damaged by ");
     print_sample(z);
     let old = replace_in(c1, c2, c3, plane, middle, z);
-    undo_damaged(bands, s, choices, c1, c2, c3);
+    undo_damaged(plan, choices, c1, c2, c3);
     replace_in(c1, c2, c3, plane, middle, old);
 }
 
@@ -101,8 +94,7 @@ fn damaged_number(kind: u32) -> i32 {
 
 fn show_plain(
     k: u32,
-    bands: Bands,
-    s: Settings,
+    plan: Plan,
     p: Generated,
     choices: &[u8],
     c1: &mut [i32],
@@ -111,10 +103,9 @@ fn show_plain(
 )
     requires { ⌜ UpTo16 (p .depths) ⌝ }
 {
-    there_and_back(Form::Plain, bands, s, p, choices, c1, c2, c3);
+    there_and_back(plan, p, choices, c1, c2, c3);
     damage(
-        bands,
-        s,
+        plan,
         choices,
         c1,
         c2,
@@ -122,13 +113,12 @@ fn show_plain(
         1 + k % 3,
         damaged_number(k / 4 % 4),
     );
-    undo(Form::Plain, bands, s, p, choices, c1, c2, c3);
+    undo(plan, p, choices, c1, c2, c3);
 }
 
 fn show(
     k: u32,
-    bands: Bands,
-    s: Settings,
+    plan: Plan,
     p: Generated,
     choices: &[u8],
     c1: &mut [i32],
@@ -137,27 +127,21 @@ fn show(
 )
     requires { ⌜ UpTo16 (p .depths) ⌝ }
 {
+    let bands = plan.bands;
     print_field(b"picture", k);
     print(b" ");
-    print_choices(s, choices);
+    print_choices(plan.settings, choices);
     print_bands(bands);
     print(b"\n");
-    show_plain(k, bands, s, p, choices, c1, c2, c3);
-    wrap(bands, s, p, choices, c1, c2, c3);
+    show_plain(k, plan, p, choices, c1, c2, c3);
+    wrap(plan, p, choices, c1, c2, c3);
 }
 
 // Fills the planes with the picture of a number.
-fn fill_and_show(
-    k: u32,
-    bands: Bands,
-    s: Settings,
-    choices: &[u8],
-    c1: &mut [i32],
-    c2: &mut [i32],
-    c3: &mut [i32],
-)
-    requires { ⌜ UpTo16 (s .depths) ⌝ }
+fn fill_and_show(k: u32, plan: Plan, choices: &[u8], c1: &mut [i32], c2: &mut [i32], c3: &mut [i32])
+    requires { ⌜ UpTo16 (plan .settings .depths) ⌝ }
 {
+    let s = plan.settings;
     let x2 = fill(c1, levels(s.depths.c1), k);
     let x3 = fill(c2, levels(s.depths.c2), x2);
     fill(c3, levels(s.depths.c3), x3);
@@ -168,24 +152,22 @@ fn fill_and_show(
         x2: x2,
         x3: x3,
     };
-    show(k, bands, s, p, choices, c1, c2, c3);
+    show(k, plan, p, choices, c1, c2, c3);
 }
 
+// In the plain form.
 fn lend(k: u32, bands: Bands, s: Settings, choices: &[u8], n: usize)
     requires { ⌜ UpTo16 (s .depths) × (n ≤ 20) ⌝ }
 {
+    let plan = Plan {
+        settings: s,
+        form: Form::Plain,
+        bands: bands,
+    };
     let mut c1 = [0i32; 20];
     let mut c2 = [0i32; 20];
     let mut c3 = [0i32; 20];
-    fill_and_show(
-        k,
-        bands,
-        s,
-        choices,
-        &mut c1[..n],
-        &mut c2[..n],
-        &mut c3[..n],
-    );
+    fill_and_show(k, plan, choices, &mut c1[..n], &mut c2[..n], &mut c3[..n]);
 }
 
 // With the filters of picture k, as many as its transform has places.

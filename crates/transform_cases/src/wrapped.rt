@@ -1,7 +1,5 @@
 // The generated pictures in the wrapped forms.
 ghost use Rattle.stage.specs.Settings.{UpTo16};
-use crate::forms::back;
-use crate::forms::there;
 use crate::generated::Generated;
 use crate::generated::print_compared;
 use crate::generated::there_and_back;
@@ -9,31 +7,23 @@ use crate::text::print_answer;
 use crate::text::print_planes;
 use case_text::print;
 use case_text::print_field;
-use stage::Bands;
 use stage::Form;
+use stage::Plan;
 use stage::Settings;
 use stage::each;
+use transform::forward;
+use transform::inverse;
 
 // The picture taken for finished planes, and what is left taken there again.
-fn undo_picture(
-    form: Form,
-    bands: Bands,
-    s: Settings,
-    choices: &[u8],
-    c1: &mut [i32],
-    c2: &mut [i32],
-    c3: &mut [i32],
-) {
-    let a = back(form, bands, s, choices, c1, c2, c3);
+fn undo_picture(plan: Plan, choices: &[u8], c1: &mut [i32], c2: &mut [i32], c3: &mut [i32]) {
+    let a = inverse(plan, choices, c1, c2, c3);
     print_answer(b"inverse", a);
     print_planes(c1, c2, c3);
     print(b"\n");
 }
 
 fn run_again(
-    form: Form,
-    bands: Bands,
-    s: Settings,
+    plan: Plan,
     p: Generated,
     choices: &[u8],
     c1: &mut [i32],
@@ -42,7 +32,7 @@ fn run_again(
 )
     requires { ⌜ UpTo16 (p .depths) ⌝ }
 {
-    let a = there(form, bands, s, choices, c1, c2, c3);
+    let a = forward(plan, choices, c1, c2, c3);
     print_answer(b"forward", a);
     print_compared(p, c1, c2, c3);
 }
@@ -64,8 +54,7 @@ fn deepest(s: Settings) -> Settings {
 
 // The picture in the wrapped form, with the deepest depth for all planes: there and back, then back and there.
 pub(crate) fn wrap(
-    bands: Bands,
-    s: Settings,
+    plan: Plan,
     p: Generated,
     choices: &[u8],
     c1: &mut [i32],
@@ -74,10 +63,15 @@ pub(crate) fn wrap(
 )
     requires { ⌜ UpTo16 (p .depths) ⌝ }
 {
-    let w = deepest(s);
-    print_field(b"wrapped to bits", w.depths.c1);
+    let bands = plan.bands;
+    let w = Plan {
+        settings: deepest(plan.settings),
+        form: Form::Wrapped,
+        bands: bands,
+    };
+    print_field(b"wrapped to bits", w.settings.depths.c1);
     print(b"\n");
-    there_and_back(Form::Wrapped, bands, w, p, choices, c1, c2, c3);
-    undo_picture(Form::Wrapped, bands, w, choices, c1, c2, c3);
-    run_again(Form::Wrapped, bands, w, p, choices, c1, c2, c3);
+    there_and_back(w, p, choices, c1, c2, c3);
+    undo_picture(w, choices, c1, c2, c3);
+    run_again(w, p, choices, c1, c2, c3);
 }

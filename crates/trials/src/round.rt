@@ -9,6 +9,7 @@ use lifting::steps::run_steps;
 use lifting::steps::undo_steps;
 use stage::Bands;
 use stage::Form;
+use stage::Plan;
 use stage::Settings;
 
 // The planes hold the picture before and after; `estimate` is that of the choices before, the answer that after.
@@ -25,35 +26,20 @@ fn round(
     requires { ⌜ RoundReady settings estimate (triple (now c1) (now c2) (now c3)) (now choices) (now counters) (now table) ⌝ }
     ensures { λ r. ⌜ RoundDone settings (triple (now (c1 .entry)) (now (c2 .entry)) (now (c3 .entry))) (now (choices .entry)) r (triple (now (c1 .exit)) (now (c2 .exit)) (now (c3 .exit))) (now (choices .exit)) (now (counters .exit)) ⌝ }
 {
+    let plan = Plan {
+        settings: settings,
+        form: Form::Plain,
+        bands: Bands::One,
+    };
     let mut e = estimate;
     let mut from = 0;
     for place in 0..choices.len() {
         let step = step_of(settings.transform, place);
-        run_steps(
-            c1,
-            c2,
-            c3,
-            settings,
-            Form::Plain,
-            Bands::One,
-            choices,
-            from,
-            step,
-        );
+        run_steps(c1, c2, c3, plan, choices, from, step);
         e = choose(c1, c2, c3, settings, place, e, choices, counters, table);
         from = step;
     }
-    undo_steps(
-        c1,
-        c2,
-        c3,
-        settings,
-        Form::Plain,
-        Bands::One,
-        choices,
-        0,
-        from,
-    );
+    undo_steps(c1, c2, c3, plan, choices, 0, from);
     e
 }
 

@@ -15,6 +15,7 @@ use lifting::steps::undo_steps;
 use ranges::widest;
 use stage::Bands;
 use stage::Form;
+use stage::Plan;
 use stage::Plane;
 use stage::Settings;
 
@@ -130,30 +131,15 @@ pub fn trial(
     requires { ⌜ ChoicesReady settings step base (triple (now c1) (now c2) (now c3)) (now choices) (now counters) (now table) ⌝ }
     ensures { λ r. ⌜ TrialFound settings step undone (triple (now (c1 .entry)) (now (c2 .entry)) (now (c3 .entry))) (now (choices .entry)) r (triple (now (c1 .exit)) (now (c2 .exit)) (now (c3 .exit))) (now (counters .exit)) ⌝ }
 {
+    let plan = Plan {
+        settings: settings,
+        form: Form::Plain,
+        bands: Bands::One,
+    };
     let n = step_count(settings.transform);
-    run_steps(
-        c1,
-        c2,
-        c3,
-        settings,
-        Form::Plain,
-        Bands::One,
-        choices,
-        step,
-        n,
-    );
+    run_steps(c1, c2, c3, plan, choices, step, n);
     let set = changed(settings.transform, step);
     let e = base + part_estimate(c1, c2, c3, settings, set, counters, table);
-    undo_steps(
-        c1,
-        c2,
-        c3,
-        settings,
-        Form::Plain,
-        Bands::One,
-        choices,
-        undone_to(undone, step, n),
-        n,
-    );
+    undo_steps(c1, c2, c3, plan, choices, undone_to(undone, step, n), n);
     e
 }

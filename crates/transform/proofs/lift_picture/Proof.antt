@@ -16,26 +16,26 @@ abbrev planes : tie.Start → Planes
 planes a = triple (now (a .args .c1)) (now (a .args .c2)) (now (a .args .c3))
 
 abbrev start : tie.After-refusal → tie.Start
-start r = r .before .before .before
+start r = r .before .before .before .before
 
 -- all steps undone, or run
 abbrev result : tie.Start → Bool → Planes
 result a back =
-    let s = a .args .settings in
+    let s = a .args .plan .settings in
     let φ = now (a .args .choices) in
-    cond back (untransformed (a .args .form) (a .args .bands) s φ (planes a)) (transformed (a .args .form) (a .args .bands) s φ (planes a))
+    cond back (untransformed (a .args .plan .form) (a .args .plan .bands) s φ (planes a)) (transformed (a .args .plan .form) (a .args .plan .bands) s φ (planes a))
 
-decision : (r : tie.After-refusal) → let a = start r in let s = a .args .settings in
-    Decides (tests (a .args .form) (a .args .bands) s (now (a .args .choices)) (planes a)) (isPicture s (planes a)) 11 (tt {0}) (result a (a .args .back)) (planes a) (r .refusal .result)
+decision : (r : tie.After-refusal) → let a = start r in let s = a .args .plan .settings in
+    Decides (tests (a .args .plan .form) (a .args .plan .bands) s (now (a .args .choices)) (planes a)) (isPicture s (planes a)) 11 (tt {0}) (result a (a .args .back)) (planes a) (r .refusal .result)
 decision r =
     let a = start r in
-    decided (a .args .form) (a .args .bands) (a .args .settings) (now (a .args .choices)) (planes a) _ (r .before .choices-fit .ensures) (r .refusal .ensures) _ 11 tt _
+    decided (a .args .plan .form) (a .args .plan .bands) (a .args .plan .settings) (now (a .args .choices)) (planes a) _ (r .before .choices-fit .ensures) (r .refusal .ensures) _ 11 tt _
 
-past : (e : tie.Else1) → let a = start (e .before) in Holds (tests (a .args .form) (a .args .bands) (a .args .settings) (now (a .args .choices)) (planes a))
+past : (e : tie.Else1) → let a = start (e .before) in Holds (tests (a .args .plan .form) (a .args .plan .bands) (a .args .plan .settings) (now (a .args .choices)) (planes a))
 past e = decision (e .before) .passed (e .if1 .left)
 
 -- the planes hold a picture
-picture : (c : tie.Else2) → let a = start (c .before .before .before .before .before .before) in isPicture (a .args .settings) (planes a) ≡ true
+picture : (c : tie.Else2) → let a = start (c .before .before .before .before .before .before) in isPicture (a .args .plan .settings) (planes a) ≡ true
 picture c = held (c .before .is-picture .ensures) (c .if2 .left)
 
 choices-fit-requires : tie.Need-choices-fit-requires
@@ -51,7 +51,7 @@ is-picture-requires : tie.Need-is-picture-requires
 is-picture-requires c κs =
     let e = c .before .before .before in
     let a = start (e .before) in
-    valid (a .args .form) (a .args .bands) (a .args .settings) (now (a .args .choices)) (planes a) (past e) .allowed
+    valid (a .args .plan .form) (a .args .plan .bands) (a .args .plan .settings) (now (a .args .choices)) (planes a) (past e) .allowed
 
 returns-2 : tie.Need-returns-2
 returns-2 c =
@@ -63,7 +63,7 @@ step-count-requires : tie.Need-step-count-requires
 step-count-requires c κs =
     let e = c .before .before .before .before .before in
     let a = start (e .before) in
-    valid (a .args .form) (a .args .bands) (a .args .settings) (now (a .args .choices)) (planes a) (past e) .allowed .transform-most
+    valid (a .args .plan .form) (a .args .plan .bands) (a .args .plan .settings) (now (a .args .choices)) (planes a) (past e) .allowed .transform-most
 
 -- where the steps begin: past both tests
 abbrev tested : tie.After-step-count → tie.Else1
@@ -74,17 +74,17 @@ undo-steps-requires c κs =
     let n = c .before .before .before .before in
     let e = tested n in
     let a = start (e .before) in
-    back-ready (a .args .form) (a .args .bands) (a .args .settings) (now (a .args .choices)) (planes a) (past e) _ (n .step-count .ensures) (picture (n .before))
+    back-ready (a .args .plan .form) (a .args .plan .bands) (a .args .plan .settings) (now (a .args .choices)) (planes a) (past e) _ (n .step-count .ensures) (picture (n .before))
 
 run-steps-requires : tie.Need-run-steps-requires
 run-steps-requires c κs =
     let n = c .before .before .before .before in
     let e = tested n in
     let a = start (e .before) in
-    forward-ready (a .args .form) (a .args .bands) (a .args .settings) (now (a .args .choices)) (planes a) (past e) _ (n .step-count .ensures) (picture (n .before))
+    forward-ready (a .args .plan .form) (a .args .plan .bands) (a .args .plan .settings) (now (a .args .choices)) (planes a) (past e) _ (n .step-count .ensures) (picture (n .before))
 
 succeeded : (n : tie.After-step-count) (q : Planes) → let a = start (tested n .before) in
-    q ≡ result a (a .args .back) → PictureGives (a .args .form) (a .args .bands) (a .args .back) (a .args .settings) (now (a .args .choices)) (planes a) Done q
+    q ≡ result a (a .args .back) → PictureGives (a .args .plan .form) (a .args .plan .bands) (a .args .back) (a .args .plan .settings) (now (a .args .choices)) (planes a) Done q
 succeeded n q e = let t = tested n in record { is = decision (t .before) .succeeds (t .if1 .left) (picture (n .before)) tt q refl e }
 
 returns-3 : tie.Need-returns-3
@@ -94,7 +94,7 @@ returns-3 c =
     let n = t .before in
     let a = start (tested n .before) in
     succeeded n _
-    (u .undo-steps .ensures ∙ undo-all (a .args .form) (a .args .bands) (a .args .settings) (now (a .args .choices)) (planes a) _ (n .step-count .ensures) (planes a) ∙ sym (ap (result a) (t .if3 .taken)))
+    (u .undo-steps .ensures ∙ undo-all (a .args .plan .form) (a .args .plan .bands) (a .args .plan .settings) (now (a .args .choices)) (planes a) _ (n .step-count .ensures) (planes a) ∙ sym (ap (result a) (t .if3 .taken)))
 
 returns-4 : tie.Need-returns-4
 returns-4 c =
@@ -103,7 +103,7 @@ returns-4 c =
     let n = t .before in
     let a = start (tested n .before) in
     succeeded n _
-    (r .run-steps .ensures ∙ run-all (a .args .form) (a .args .bands) (a .args .settings) (now (a .args .choices)) (planes a) _ (n .step-count .ensures) (planes a) ∙ sym (ap (result a) (t .if3 .left)))
+    (r .run-steps .ensures ∙ run-all (a .args .plan .form) (a .args .plan .bands) (a .args .plan .settings) (now (a .args .choices)) (planes a) _ (n .step-count .ensures) (planes a) ∙ sym (ap (result a) (t .if3 .left)))
 
 pub lift-picture-spec : {M : Type 1} → statement M
 lift-picture-spec =

@@ -26,49 +26,49 @@ planes a = triple (now (a .args .c1)) (now (a .args .c2)) (now (a .args .c3))
 
 -- before the choices are read
 abbrev start : tie.After-places → tie.Start
-start p = p .before .before .before .before
+start p = p .before .before .before .before .before
 
-fit : (a : tie.Start) → Choices (a .args .bands) (a .args .settings) (now (a .args .choices))
-fit a = choices (a .args .bands) (a .args .settings) (now (a .args .choices)) (a .pre .fit .choices)
+fit : (a : tie.Start) → Choices (a .args .plan .bands) (a .args .plan .settings) (now (a .args .choices))
+fit a = choices (a .args .plan .bands) (a .args .plan .settings) (now (a .args .choices)) (a .pre .fit .choices)
 
-place : (a : tie.Start) → a .args .k < places (steps (a .args .settings .transform))
-place a = omega (arith, a .pre .fit .last, told (a .args .settings .transform) (a .pre .fit .transform) .enough)
+place : (a : tie.Start) → a .args .k < places (steps (a .args .plan .settings .transform))
+place a = omega (arith, a .pre .fit .last, told (a .args .plan .settings .transform) (a .pre .fit .transform) .enough)
 
 -- the choice of a place is there
-within : (p : tie.After-places) (j : ℕ) → j < places (steps (start p .args .settings .transform)) → p .places .result * start p .args .band + j < length (now (start p .args .choices))
+within : (p : tie.After-places) (j : ℕ) → j < places (steps (start p .args .plan .settings .transform)) → p .places .result * start p .args .band + j < length (now (start p .args .choices))
 within p j h =
     let a = start p in
     subst (λ (n : ℕ). n * a .args .band + j < length (now (a .args .choices))) (sym (p .places .ensures))
-    (subst (λ (n : ℕ). places (steps (a .args .settings .transform)) * a .args .band + j < n) (sym (fit a .count))
-    (band-set (a .args .bands) (a .args .settings) (a .args .band) j (a .pre .fit .bands) (a .pre .begins) h))
+    (subst (λ (n : ℕ). places (steps (a .args .plan .settings .transform)) * a .args .band + j < n) (sym (fit a .count))
+    (band-set (a .args .plan .bands) (a .args .plan .settings) (a .args .band) j (a .pre .fit .bands) (a .pre .begins) h))
 
 -- RCT's third step, and its second place
-third : (c : tie.Then1) → let s = start (c .before .before .before) .args in (s .settings .transform ≡ 0) × (s .k ≡ 2)
-third c = let s = start (c .before .before .before) .args in both-equal (s .settings .transform) (s .k) 0 2 (c .if1 .taken)
+third : (c : tie.Then1) → let s = start (c .before .before .before) .args in (s .plan .settings .transform ≡ 0) × (s .k ≡ 2)
+third c = let s = start (c .before .before .before) .args in both-equal (s .plan .settings .transform) (s .k) 0 2 (c .if1 .taken)
 
-second : (c : tie.Then1) → 3 < places (steps (start (c .before .before .before) .args .settings .transform))
+second : (c : tie.Then1) → 3 < places (steps (start (c .before .before .before) .args .plan .settings .transform))
 second c = rw (third c .0) (omega arith)
 
 -- the filter of a place
 filter-is : (p : tie.After-places) (j f : ℕ) → let s = start p .args in f ≡ getD (now (s .choices)) (p .places .result * s .band + j) 0
-    → f ≡ getD (now (s .choices)) (places (steps (s .settings .transform)) * s .band + j) 0
+    → f ≡ getD (now (s .choices)) (places (steps (s .plan .settings .transform)) * s .band + j) 0
 filter-is p j f e = let s = start p .args in e ∙ ap (λ (n : ℕ). getD (now (s .choices)) (n * s .band + j) 0) (p .places .ensures)
 
 -- the rows
-from-is : (p : tie.After-places) → let s = start p .args in p .before .before .rows-before .result ≡ rowsBefore (s .bands) (s .settings .height) (s .band)
+from-is : (p : tie.After-places) → let s = start p .args in p .before .before .rows-before .result ≡ rowsBefore (s .plan .bands) (s .plan .settings .height) (s .band)
 from-is p = p .before .before .rows-before .ensures
 
-to-is : (p : tie.After-places) → let s = start p .args in p .before .rows-before2 .result ≡ rowsBefore (s .bands) (s .settings .height) (s .band + 1)
+to-is : (p : tie.After-places) → let s = start p .args in p .before .rows-before2 .result ≡ rowsBefore (s .plan .bands) (s .plan .settings .height) (s .band + 1)
 to-is p = p .before .rows-before2 .ensures
 
 rows-before-requires : tie.Need-rows-before-requires
-rows-before-requires c κs = omega (arith, band-most (c .before .pre))
+rows-before-requires c κs = omega (arith, band-most (c .before .before .pre))
 
 add-rows-before : tie.Need-add-rows-before
-add-rows-before c = let m = band-most (c .before .before .pre) in search needs
+add-rows-before c = let m = band-most (c .before .before .before .pre) in search needs
 
 rows-before-requires-2 : tie.Need-rows-before-requires-2
-rows-before-requires-2 c κs = omega (arith, band-most (c .before .before .pre))
+rows-before-requires-2 c κs = omega (arith, band-most (c .before .before .before .pre))
 
 mul-first : tie.Need-mul-first
 mul-first c = let m = within c _ (place (start c)) in search needs
@@ -126,7 +126,7 @@ returns c =
     let p = f .before in
     let a = start p in
     let s = a .args in
-    quarter-rows (s .form) (a .pre) (from-is p) (to-is p) _ _ (s .back) (third (g .before)) (filter-is p (s .k) _ (f .filter-at .ensures)) (filter-is p 3 _ (g .filter-at2 .ensures))
+    quarter-rows (s .plan .form) (a .pre) (from-is p) (to-is p) _ _ (s .back) (third (g .before)) (filter-is p (s .k) _ (f .filter-at .ensures)) (filter-is p 3 _ (g .filter-at2 .ensures))
     (q .lift-quarter .ensures)
 
 returns-2 : tie.Need-returns-2
@@ -137,7 +137,7 @@ returns-2 c =
     let p = f .before in
     let a = start p in
     let s = a .args in
-    pass-rows (s .form) (a .pre) (from-is p) (to-is p) _ (s .back) (filter-is p (s .k) _ (f .filter-at .ensures)) (e .if1 .left) (l .lift-plane .ensures)
+    pass-rows (s .plan .form) (a .pre) (from-is p) (to-is p) _ (s .back) (filter-is p (s .k) _ (f .filter-at .ensures)) (e .if1 .left) (l .lift-plane .ensures)
 
 pub lift-band-spec : {M : Type 1} → statement M
 lift-band-spec =

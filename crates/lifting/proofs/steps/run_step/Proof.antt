@@ -18,20 +18,20 @@ use Rattle.lifting.proofs.steps.run_step.Statement.{statement}
 use Rattle.lifting.proofs.steps.run_step.Tie as tie
 
 abbrev Inv-loop : tie.InvT-loop
-Inv-loop c1₀ c2₀ c3₀ settings form bands choices k back h band₀ c1 c2 c3 band =
-    (band ≤ h) × StepRows form bands settings choices (reversedIf back (stepAt (settings .transform) k)) 0 (rowsBefore bands h band) (triple c1₀ c2₀ c3₀) (triple c1 c2 c3)
+Inv-loop c1₀ c2₀ c3₀ plan choices k back height bands band₀ c1 c2 c3 band =
+    (band ≤ plan .settings .height) × StepRows (plan .form) (plan .bands) (plan .settings) choices (reversedIf back (stepAt (plan .settings .transform) k)) 0 (rowsBefore (plan .bands) (plan .settings .height) band) (triple c1₀ c2₀ c3₀) (triple c1 c2 c3)
 
 abbrev μ-loop : tie.MeasureT-loop
-μ-loop c1₀ c2₀ c3₀ settings form bands choices k back h band₀ c1 c2 c3 band = h - band
+μ-loop c1₀ c2₀ c3₀ plan choices k back height bands band₀ c1 c2 c3 band = plan .settings .height - band
 
 abbrev start : tie.At-loop Inv-loop μ-loop → tie.Start Inv-loop μ-loop
-start l = l .before .before .before
+start l = l .before .before
 
 abbrev planes : tie.At-loop Inv-loop μ-loop → Planes
 planes l = triple (l .loop .c1) (l .loop .c2) (l .loop .c3)
 
 -- the next band
-ready : (i : tie.Then1 Inv-loop μ-loop) → let l = i .before .before in let s = start l .args in BandReady (s .bands) (s .settings) (now (s .choices)) (s .k) (l .loop .band) (planes l)
+ready : (i : tie.Then1 Inv-loop μ-loop) → let l = i .before .before in let s = start l .args in BandReady (s .plan .bands) (s .plan .settings) (now (s .choices)) (s .k) (l .loop .band) (planes l)
 ready i =
     let l = i .before .before in
     let a = start l in
@@ -44,9 +44,6 @@ ready i =
 -- the planes keep their lengths
 long : (l : tie.At-loop Inv-loop μ-loop) (c : Plane) → length (get (planes l) c) ≡ length (get (triple (now (start l .args .c1)) (now (start l .args .c2)) (now (start l .args .c3))) c)
 long l = rows-long (l .loop .inv .1)
-
-cast-h : tie.Need-cast-h Inv-loop μ-loop
-cast-h c = search needs
 
 loop-holds : tie.Need-loop-holds Inv-loop μ-loop
 loop-holds c = (omega arith, rows-none _ (omega arith))
@@ -74,7 +71,7 @@ loop-again c =
     let l = i .before .before in
     let a = start l in
     let m = ready i in
-    (omega (arith, band-most m), rows-more (l .loop .inv .1) (step-apart (a .args .settings .transform) (a .args .k) (a .args .back) (omega (arith, a .pre .fit .last))) (rows-order m) (r .lift-band .ensures))
+    (omega (arith, band-most m), rows-more (l .loop .inv .1) (step-apart (a .args .plan .settings .transform) (a .args .k) (a .args .back) (omega (arith, a .pre .fit .last))) (rows-order m) (r .lift-band .ensures))
 
 same-length : tie.Need-same-length Inv-loop μ-loop
 same-length c = long (c .before .before) C1
@@ -97,9 +94,9 @@ run-step-spec =
     (tie.spec
     Inv-loop
     μ-loop
-    cast-h
     loop-holds
     rows-before-requires
+    (λ c. search needs)
     lift-band-requires
     add-band
     loop-less

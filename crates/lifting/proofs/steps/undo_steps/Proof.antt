@@ -12,11 +12,11 @@ use Rattle.lifting.proofs.steps.undo_steps.Statement.{statement}
 use Rattle.lifting.proofs.steps.undo_steps.Tie as tie
 
 abbrev Inv-loop : tie.InvT-loop
-Inv-loop c1₀ c2₀ c3₀ settings form bands choices from to k₀ c1 c2 c3 k =
-    (from ≤ k) × (k ≤ to) × (triple c1 c2 c3 ≡ undo (setup form bands settings choices) (slice (steps (settings .transform)) k to) (triple c1₀ c2₀ c3₀))
+Inv-loop c1₀ c2₀ c3₀ plan choices from to k₀ c1 c2 c3 k =
+    (from ≤ k) × (k ≤ to) × (triple c1 c2 c3 ≡ undo (setup (plan .form) (plan .bands) (plan .settings) choices) (slice (steps (plan .settings .transform)) k to) (triple c1₀ c2₀ c3₀))
 
 abbrev μ-loop : tie.MeasureT-loop
-μ-loop c1₀ c2₀ c3₀ settings form bands choices from to k₀ c1 c2 c3 k = k
+μ-loop c1₀ c2₀ c3₀ plan choices from to k₀ c1 c2 c3 k = k
 
 loop-holds : tie.Need-loop-holds Inv-loop μ-loop
 loop-holds c =

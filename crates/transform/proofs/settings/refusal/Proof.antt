@@ -10,7 +10,7 @@ use Rattle.transform.proofs.settings.refusal.Tie as tie
 
 mul-pixels : tie.Need-mul-pixels
 mul-pixels c =
-    let s = c .before .before .args .settings in
+    let s = c .before .before .before .args .plan .settings in
     let m : s .width * s .height ≤ 4294967295 * 4294967295 = mul-le-mul {n₁ = s .width} {m₁ = s .height} {n₂ = 4294967295} {m₂ = 4294967295} (omega arith) (omega arith) in
     record { fits = omega arith }
 
@@ -22,11 +22,11 @@ returns c =
     let u3 = u4 .before .before in
     let u2 = u3 .before .before in
     let u1 = u2 .before in
-    let s = u1 .before .before .before .before .args in
+    let s = u1 .before .before .before .before .before .args in
     test-made 2 (c .before .is-sized .ensures)
     (test-made 5 (u6 .before .are-depths .ensures)
     (test-made 16 (u5 .before .depths-suit .ensures)
-    (test-made {made = leb (s .settings .transform) 3} 6 refl
+    (test-made {made = leb (s .plan .settings .transform) 3} 6 refl
     (test-made 17 (u3 .before .bands-suit .ensures)
     (test-made {made = s .choices} 7 refl
     (test-made 8 (u1 .before .all-equal .ensures) refl (u1 .select .ensures))

@@ -31,11 +31,11 @@ record Kept (φ ψ l m : List ℕ) (k end : ℕ) : Type 0 where
   counters : length m ≡ length l
 
 abbrev Inv-loop : tie.InvT-loop
-Inv-loop c1₀ c2₀ c3₀ settings estimate choices₀ counters₀ table e₀ from₀ place₀ place-end c1 c2 c3 choices counters e from place =
+Inv-loop c1₀ c2₀ c3₀ settings estimate choices₀ counters₀ table plan e₀ from₀ place₀ place-end c1 c2 c3 choices counters e from place =
     Kept choices₀ choices counters₀ counters place place-end × AtPlace settings (triple c1₀ c2₀ c3₀) place from (triple c1 c2 c3) choices₀ choices e counters
 
 abbrev μ-loop : tie.MeasureT-loop
-μ-loop c1₀ c2₀ c3₀ settings estimate choices₀ counters₀ table e₀ from₀ place₀ place-end c1 c2 c3 choices counters e from place = place-end - place
+μ-loop c1₀ c2₀ c3₀ settings estimate choices₀ counters₀ table plan e₀ from₀ place₀ place-end c1 c2 c3 choices counters e from place = place-end - place
 
 abbrev start : tie.At-loop Inv-loop μ-loop → tie.Start Inv-loop μ-loop
 start l = l .before .before .before
