@@ -27,7 +27,7 @@ ForwardGives κ β s φ p r q = outcomeOf r q ≡ forward κ β s φ p
 abbrev pub InverseGives : Form → Bands → Settings → List ℕ → Planes → Answer → Planes → Type 0
 InverseGives κ β s φ p r q = outcomeOf r q ≡ inverse κ β s φ p
 
--- Three of the four calls take a picture's planes: all steps are run, or undone.
+-- Forward, and back in the wrapped forms, take a picture's planes: all steps are run, or undone.
 pub record PictureGives (κ : Form) (β : Bands) (back : Bool) (s : Settings) (φ : List ℕ) (p : Planes) (r : Answer) (q : Planes) : Type 0 where
   pub is : outcomeOf r q
       ≡ outcome (settingsTests κ β s (choicesFit β s φ) (lengths p) ++ (isPicture s p else 11) ∷ []) tt (cond back (untransformed κ β s φ p) (transformed κ β s φ p)) p
