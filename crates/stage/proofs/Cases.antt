@@ -20,7 +20,7 @@ use Rattle.stage.specs.FilterCases.{oneColour, filterCases, countedCases
 use Rattle.stage.specs.TransformCases.{planeCases, nullCases, limitCases, orderCases, TransformCasesHold}
 use Rattle.stage.specs.DepthCases.{depthRangeCases, depthCases, DepthCasesHold}
 use Rattle.stage.specs.WrappedCases.{wrappedCases, keptCases, refusalCases, WrappedCasesHold}
-use Rattle.stage.specs.BandCases.{bandCases, bandRefusalCases, BandCasesHold}
+use Rattle.stage.specs.BandCases.{bandCases, bandStepCases, bandRefusalCases, BandCasesHold}
 use Rattle.stage.specs.SearchCases.{estimateCases, tieCases, scratchCases, EstimateCasesHold, TieCasesHold}
 use Rattle.stage.specs.PixmapCases.{textCases, fileCases, planesCases, PixmapCasesHold}
 use Rattle.stage.proofs.OneColour.{one-colour}
@@ -51,8 +51,8 @@ unfolding wrappedCases keptCases refusalCases floorMod forward inverse transform
 wrapped-cases-hold = (refl, refl, refl)
 
 pub band-cases-hold : BandCasesHold
-unfolding bandCases bandRefusalCases floorMod forward inverse transformed untransformed filtered mean allWithin
-band-cases-hold = (refl, refl)
+unfolding bandCases bandStepCases bandRefusalCases floorMod forward inverse transformed untransformed filtered mean allWithin
+band-cases-hold = (refl, refl, refl)
 
 pub tie-cases-hold : TieCasesHold
 unfolding tieCases winner round rounds searched

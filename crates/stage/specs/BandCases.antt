@@ -77,14 +77,19 @@ bandCases =
     ∷ (back Plain (Of 2) 3 2 bandsOf2 after2 gives accepted column)
     ∷ (there Plain (Of 1) 3 2 mask column gives accepted afterMask)
     ∷ (back Plain (Of 1) 3 2 mask afterMask gives accepted column)
-    ∷ (there Plain (Of 1) 2 3 wholeSteps pair gives accepted (triple (two (pos 40) (pos 35)) (two (minus 90) (minus 30)) (two (minus 33) (minus 26))))
-    ∷ (there Plain (Of 1) 2 0 quarters grey gives accepted (triple (two (minus 190) (minus 80)) (two (pos 200) (pos 82)) (two (minus 140) (minus 70))))
     -- "wrapped forms may be banded too": the same modulo 256
     ∷ (there Wrapped (Of 2) 3 2 bandsOf2 column gives accepted (after (three (pos 71) (pos 20) (pos 255)) (three (pos 165) (pos 250) (pos 233))))
     ∷ (back Wrapped (Of 2) 3 2 bandsOf2 (after (three (pos 71) (pos 20) (pos 255)) (three (pos 165) (pos 250) (pos 233))) gives accepted column)
     -- "unreachable planes are known": 256 in the mask's row, which comes back as it is, is no sample
     ∷ (back Plain (Of 1) 3 2 mask (after (three (minus 185) (pos 256) (minus 230)) (three (pos 65) (pos 6) (pos 121)))
     gives refuses 12 (after (three (minus 185) (pos 256) (minus 230)) (three (pos 65) (pos 6) (pos 121))))
+    ∷ []
+
+-- "each step still covers the whole picture first", and "a step is skipped row by row"
+unfoldable pub bandStepCases : List Case
+bandStepCases =
+    (there Plain (Of 1) 2 3 wholeSteps pair gives accepted (triple (two (pos 40) (pos 35)) (two (minus 90) (minus 30)) (two (minus 33) (minus 26))))
+    ∷ (there Plain (Of 1) 2 0 quarters grey gives accepted (triple (two (minus 190) (minus 80)) (two (pos 200) (pos 82)) (two (minus 140) (minus 70))))
     ∷ []
 
 -- "17 if the band height is 0 or above the picture's, after 6; 7 also if the choices .. aren't exactly places × bands in number"
@@ -106,4 +111,4 @@ bandRefusalCases =
     ∷ []
 
 abbrev pub BandCasesHold : Type 0
-BandCasesHold = Hold bandCases × Hold bandRefusalCases
+BandCasesHold = Hold bandCases × Hold bandStepCases × Hold bandRefusalCases
