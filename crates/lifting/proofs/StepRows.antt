@@ -1,11 +1,11 @@
 -- Rows of a step by its bands, one band after the other: what the passes make of a band's rows, and what stands between.
 use mathlib.Core.Path.{_≡_, refl, sym, ap, ap₂, _∙_, subst}
-use mathlib.Core.Bool.{Bool, true, false, cond, not, _&&_}
+use mathlib.Core.Bool.{Bool, true, false, cond, _&&_}
 use mathlib.Core.List.{List, [], _∷_}
 use Prim.Native.Nat.{ℕ, zero, suc, _+_, _*_, _≤_, _<_}
 use native.Mathlib.Nat.{mul-comm, mul-le-mul-right}
 use native.Mathlib.Omega.{arith}
-use lib.Dec.{T, eqb}
+use lib.Dec.{eqb}
 use lib.IntN.{ℤ}
 use lib.ListN.{length, getD}
 use Rattle.integers.specs.Parts.{In}
@@ -17,8 +17,7 @@ use Rattle.stage.specs.declared.Form.{Form}
 use Rattle.stage.specs.declared.Bands.{Bands}
 use Rattle.stage.specs.declared.Plane.{Plane}
 use Rattle.stage.specs.declared.Plane.the-variants.{C2}
-use Rattle.stage.specs.Settings.{pixels}
-use Rattle.stage.specs.Planes.{Planes, get, put, samePlane}
+use Rattle.stage.specs.Planes.{Planes, get, put}
 use Rattle.stage.specs.Steps.{Setup, Step, steps, places, value, skipped, lift, lifted, step}
 use Rattle.stage.specs.Transform.{HasSize, setup}
 use Rattle.stage.proofs.Triples.{get-put, put-get, get-other, others-same, put-both}
@@ -26,7 +25,7 @@ use Rattle.stage.proofs.Reversal.{Unread, Apart, apart, value-put}
 use Rattle.lifting.specs.Passes.{anyStep, passAt, stepAt, reversedIf, passed, quarterAt}
 use Rattle.lifting.specs.Steps.{Ready, RowsChanged}
 use Rattle.lifting.specs.BandRows.{rowsBefore, BandReady, StepRows, BandChanged}
-use Rattle.lifting.proofs.TransformPasses.{Made, one-pass, quarter-step, changed-rows}
+use Rattle.lifting.proofs.TransformPasses.{one-pass, quarter-step, rows-all}
 use Rattle.lifting.proofs.BandRows.{band-choice}
 
 -- ---- a band's rows, from .. to − 1, by the passes of its filters
@@ -133,4 +132,4 @@ module _ {κ : Form} {β : Bands} {s : Settings} {φ : List ℕ} {x : Step} {y :
 
   -- at the last row
   pub rows-done : y ≡ s .height → HasSize s p → q ≡ step σ x p
-  rows-done e z = changed-only ∙ ap (put p (x .plane)) (changed-rows (s .width) (s .height) (z (x .plane)) (subst (λ (n : ℕ). Changed (lifted σ p x) (0 * s .width) (n * s .width) (get p (x .plane)) (get q (x .plane))) e (u .rows .rows)))
+  rows-done e z = rows-all z (subst (λ (n : ℕ). RowsChanged (lifted σ p x) (x .plane) s 0 n p q) e (u .rows))

@@ -131,7 +131,7 @@ pub pass-skipped : (κ : Form) (s : Settings) (back : Bool) (f from to : ℕ) (x
 pass-skipped κ s back f from to x p e = record { rows = changed-idle _ _ _ _ (λ i z. rw e); others = λ d h. refl }
 
 -- ---- all rows changed
-pub changed-rows : {f : ℕ → ℤ → ℤ} {before after : List ℤ} (w h : ℕ) → length before ≡ w * h → Changed f (0 * w) (h * w) before after → after ≡ mapIndexed f 0 before
+changed-rows : {f : ℕ → ℤ → ℤ} {before after : List ℤ} (w h : ℕ) → length before ≡ w * h → Changed f (0 * w) (h * w) before after → after ≡ mapIndexed f 0 before
 changed-rows {f} {before} {after} w h z u =
     let e : 0 * w ≡ 0 = omega arith in
     changed-all (subst (λ (n : ℕ). Changed f n (h * w) before after) e u) (omega (arith, z))
@@ -144,33 +144,36 @@ module _ (κ : Form) (β : Bands) (s : Settings) (φ : List ℕ) (p : Planes) wh
   abbrev σ : Setup
   σ = setup κ β s φ
 
+  abbrev Same : (t k : ℕ) (back : Bool) → Type 0
+  Same t k back = (i : ℕ) (z : ℤ) → passed κ s back (σ .filter k i) (passAt t k) p i z ≡ lifted σ p (reversedIf back (stepAt t k)) i z
+
   -- the pass of place k makes of every sample what step k does, by the filter that the place has there
   pub record Made (t k : ℕ) (back : Bool) : Type 0 where
     pub plane : passAt t k .changed ≡ reversedIf back (stepAt t k) .plane
-    pub each : (i : ℕ) (z : ℤ) → passed κ s back (σ .filter k i) (passAt t k) p i z ≡ lifted σ p (reversedIf back (stepAt t k)) i z
+    pub each : Same t k back
 
-  both : (t k : ℕ) → Made t k true → Made t k false → (back : Bool) → Made t k back
-  both t k x y true = x
-  both t k x y false = y
+  both : (t k : ℕ) → passAt t k .changed ≡ stepAt t k .plane → Same t k true → Same t k false → (back : Bool) → Made t k back
+  both t k e x y true = record { plane = e; each = x }
+  both t k e x y false = record { plane = e; each = y }
 
   -- every step but RCT's third is the pass of the place that has its number
   pub one-pass : (t k : ℕ) → k < length (steps t) → (eqb t 0 && eqb k 2) ≡ false → (back : Bool) → Made t k back
   unfolding made applied
-  one-pass zero zero b e = both 0 0 (record { plane = refl; each = λ i z. refl }) (record { plane = refl; each = λ i z. refl })
-  one-pass zero (suc zero) b e = both 0 1 (record { plane = refl; each = λ i z. refl }) (record { plane = refl; each = λ i z. refl })
+  one-pass zero zero b e = both 0 0 refl (λ i z. refl) (λ i z. refl)
+  one-pass zero (suc zero) b e = both 0 1 refl (λ i z. refl) (λ i z. refl)
   one-pass zero (suc (suc zero)) b e = absurd (subst T e tt)
   one-pass zero (suc (suc (suc k))) b e = absurd (omega arith)
-  one-pass (suc zero) zero b e = both 1 0 (record { plane = refl; each = λ i z. refl }) (record { plane = refl; each = λ i z. refl })
-  one-pass (suc zero) (suc zero) b e = both 1 1 (record { plane = refl; each = λ i z. refl }) (record { plane = refl; each = λ i z. refl })
-  one-pass (suc zero) (suc (suc zero)) b e = both 1 2 (record { plane = refl; each = λ i z. refl }) (record { plane = refl; each = λ i z. refl })
-  one-pass (suc zero) (suc (suc (suc zero))) b e = both 1 3 (record { plane = refl; each = λ i z. refl }) (record { plane = refl; each = λ i z. refl })
+  one-pass (suc zero) zero b e = both 1 0 refl (λ i z. refl) (λ i z. refl)
+  one-pass (suc zero) (suc zero) b e = both 1 1 refl (λ i z. refl) (λ i z. refl)
+  one-pass (suc zero) (suc (suc zero)) b e = both 1 2 refl (λ i z. refl) (λ i z. refl)
+  one-pass (suc zero) (suc (suc (suc zero))) b e = both 1 3 refl (λ i z. refl) (λ i z. refl)
   one-pass (suc zero) (suc (suc (suc (suc k)))) b e = absurd (omega arith)
-  one-pass (suc (suc zero)) zero b e = both 2 0 (record { plane = refl; each = λ i z. refl }) (record { plane = refl; each = λ i z. refl })
-  one-pass (suc (suc zero)) (suc zero) b e = both 2 1 (record { plane = refl; each = λ i z. refl }) (record { plane = refl; each = λ i z. refl })
+  one-pass (suc (suc zero)) zero b e = both 2 0 refl (λ i z. refl) (λ i z. refl)
+  one-pass (suc (suc zero)) (suc zero) b e = both 2 1 refl (λ i z. refl) (λ i z. refl)
   one-pass (suc (suc zero)) (suc (suc k)) b e = absurd (omega arith)
-  one-pass (suc (suc (suc zero))) zero b e = both 3 0 (record { plane = refl; each = λ i z. refl }) (record { plane = refl; each = λ i z. refl })
-  one-pass (suc (suc (suc zero))) (suc zero) b e = both 3 1 (record { plane = refl; each = λ i z. refl }) (record { plane = refl; each = λ i z. refl })
-  one-pass (suc (suc (suc zero))) (suc (suc zero)) b e = both 3 2 (record { plane = refl; each = λ i z. refl }) (record { plane = refl; each = λ i z. refl })
+  one-pass (suc (suc (suc zero))) zero b e = both 3 0 refl (λ i z. refl) (λ i z. refl)
+  one-pass (suc (suc (suc zero))) (suc zero) b e = both 3 1 refl (λ i z. refl) (λ i z. refl)
+  one-pass (suc (suc (suc zero))) (suc (suc zero)) b e = both 3 2 refl (λ i z. refl) (λ i z. refl)
   one-pass (suc (suc (suc zero))) (suc (suc (suc k))) b e = absurd (omega arith)
   one-pass (suc (suc (suc (suc t)))) k b e = absurd (omega arith)
 

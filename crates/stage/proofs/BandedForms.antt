@@ -1,20 +1,20 @@
 -- Bands: how many there are, a row's choice of filters, and bands as high as the picture.
-use mathlib.Core.Path.{_≡_, refl, sym, ap, ap₂, _∙_}
-use mathlib.Core.Bool.{Bool, true, false, _&&_}
-use mathlib.Core.List.{List, [], _∷_}
+use mathlib.Core.Path.{_≡_, refl, ap}
+use mathlib.Core.Bool.{true}
+use mathlib.Core.List.{List}
 use Prim.Native.Nat.{ℕ, suc, _+_, _*_, _-_, _/_, _≤_, _<_}
 use native.Mathlib.Nat.{mul-comm, lt-mul-div-succ, le-div-iff-mul-le, div-lt-iff-lt-mul, div-eq-of-lt, div-eq-of-lt-le}
 use native.Mathlib.Omega.{arith}
 use lib.Arith.{digits-div}
 use borrow.Table.Steps.{cases}
-use lib.ListN.{length, getD}
+use lib.ListN.{getD}
 use Rattle.integers.proofs.Booleans.{holds-true, true-holds}
 use Rattle.stage.specs.Answers.{sized, between, refusal}
-use Rattle.stage.specs.Settings.{Settings, Form, Plain, Wrapped, One, Of, bandCount, bandsSuit, pixels}
-use Rattle.stage.specs.Planes.{Plane, Triple, Planes, get}
-use Rattle.stage.specs.Steps.{Setup, steps, places, run, undo}
-use Rattle.stage.specs.Transform.{choiceCount, choicesFit, allFilters, choiceAt, filterAt, lengths, settingsTests, setup, HasSize, transformed, untransformed, isPicture, reachable, unreachable, forward, inverse}
-use Rattle.stage.specs.BandedForms.{BandsCounted, RowsUseTheirBand, SameAsOne, BandsAsHigh}
+use Rattle.stage.specs.Settings.{Settings, Form, Plain, Wrapped, One, Of, bandCount, pixels}
+use Rattle.stage.specs.Planes.{Triple, Planes}
+use Rattle.stage.specs.Steps.{steps}
+use Rattle.stage.specs.Transform.{choiceCount, choicesFit, choiceAt, lengths, settingsTests, setup, HasSize, transformed, untransformed, isPicture, reachable, unreachable, forward, inverse}
+use Rattle.stage.specs.BandedForms.{BandsCounted, RowsUseTheirBand, BandsAsHigh}
 use Rattle.stage.proofs.Answers.{Numbered, between-iff, sized-iff, calls-agree}
 use Rattle.stage.proofs.Validity.{fit-iff}
 use Rattle.stage.proofs.Setups.{run-same, undo-same}

@@ -16,7 +16,7 @@ use Rattle.stage.specs.Steps.{steps}
 use Rattle.stage.specs.Ranges.{Range, sampleRanges, formRanges, withinRange, withinRanges, InRanges}
 use Rattle.stage.specs.Transform.{choicesFit, lengths, settingsTests, Fit, HasSize, setup, transformed, untransformed, isPicture, reachable, unreachable, forward, inverse}
 use Rattle.stage.specs.Demand3.{GoesTo, accepted, Demand3, Demand3Holds, CallsInverse}
-use Rattle.stage.proofs.Answers.{Holds, refusal-past, holds-append, done-refusal, outcome-refused, outcome-iff}
+use Rattle.stage.proofs.Answers.{refusal-past, holds-append, done-refusal, outcome-refused, outcome-iff}
 use Rattle.stage.proofs.Validity.{fit-iff}
 use Rattle.stage.proofs.Triples.{each-test}
 use Rattle.stage.proofs.Reversal.{undo-length}

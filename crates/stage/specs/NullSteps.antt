@@ -6,9 +6,9 @@ use Prim.Native.Nat.{ℕ, _≤_, _<_}
 use lib.Dec.{T}
 use lib.ListN.{length, replicate}
 use Rattle.stage.specs.Settings.{Settings, Form, Plain, Bands, depthsSuit, bandsSuit, Allowed}
-use Rattle.stage.specs.Planes.{Plane, Planes, get}
+use Rattle.stage.specs.Planes.{Planes, get}
 use Rattle.stage.specs.Steps.{Setup, Step, Lifting, add, subtract, negate, allNull, reversed, step, run, undo, steps, places}
-use Rattle.stage.specs.Transform.{choiceCount, filterAt, setup, transformed, untransformed, Picture, forward, inverse}
+use Rattle.stage.specs.Transform.{choiceCount, setup, transformed, untransformed, Picture, forward, inverse}
 use Rattle.stage.specs.Demand3.{GoesTo, accepted}
 
 -- "a step whose places are all null leaves its plane unchanged, both ways", in every setup that skips null steps

@@ -12,7 +12,7 @@ use Rattle.stage.specs.declared.Settings.{Settings}
 use Rattle.stage.specs.declared.Form.{Form}
 use Rattle.stage.specs.declared.Bands.{Bands}
 use Rattle.stage.specs.declared.Plane.the-variants.{C1, C2, C3}
-use Rattle.stage.specs.Answers.{Reply, _else_, answer, Outcome, replyOf}
+use Rattle.stage.specs.Answers.{Reply, _else_, answer, Outcome}
 use Rattle.stage.specs.Planes.{Triple, Planes, triple}
 use Rattle.stage.specs.Ranges.{sampleRanges}
 use Rattle.stage.specs.Steps.{Setup, steps}

@@ -1,18 +1,13 @@
 use borrow.Author.Needs.{needs}
-use mathlib.Core.Path.{_≡_, sym, ap, ap₂, _∙_, subst}
-use mathlib.Core.List.{List}
-use Prim.Native.Nat.{ℕ, _+_, _*_, _≤_, _<_}
+use mathlib.Core.Path.{_≡_, sym, ap, _∙_, subst}
+use Prim.Native.Nat.{ℕ, _+_, _*_, _<_}
 use native.Mathlib.Omega.{arith}
-use lib.IntN.{ℤ}
 use lib.ListN.{length, getD}
 use denote.Ref.{now}
-use Rattle.integers.specs.Lists.{Changed}
 use Rattle.stage.specs.declared.Plane.the-variants.{C1, C2, C3}
 use Rattle.stage.specs.Planes.{Planes, triple}
 use Rattle.stage.specs.Steps.{steps, places}
 use Rattle.stage.proofs.Choices.{Choices, choices}
-use Rattle.lifting.specs.Passes.{passAt, passed, quarterAt}
-use Rattle.lifting.specs.Steps.{RowsChanged}
 use Rattle.lifting.specs.BandRows.{rowsBefore}
 use Rattle.lifting.proofs.Table.{told}
 use Rattle.lifting.proofs.TransformPasses.{both-equal}

@@ -1,17 +1,14 @@
 use borrow.Author.Needs.{needs}
-use mathlib.Core.Path.{_≡_, refl, sym, ap, _∙_, subst}
-use Prim.Native.Nat.{ℕ, _+_, _*_, _-_, _≤_, _<_}
+use mathlib.Core.Path.{_≡_}
+use Prim.Native.Nat.{_-_, _≤_}
 use native.Mathlib.Omega.{arith}
 use denote.Ref.{now}
-use Rattle.integers.proofs.Changes.{changed-none}
 use lib.ListN.{length}
 use Rattle.stage.specs.declared.Plane.{Plane}
 use Rattle.stage.specs.declared.Plane.the-variants.{C1, C2, C3}
 use Rattle.stage.specs.Planes.{Planes, triple, get}
-use Rattle.stage.specs.Steps.{Step}
 use Rattle.lifting.specs.Passes.{stepAt, reversedIf}
-use Rattle.lifting.specs.Steps.{Ready}
-use Rattle.lifting.specs.BandRows.{bandRows, rowsBefore, BandReady, StepRows}
+use Rattle.lifting.specs.BandRows.{rowsBefore, BandReady, StepRows}
 use Rattle.lifting.proofs.BandRows.{band-most, rows-order}
 use Rattle.lifting.proofs.StepRows.{step-apart, rows-none, rows-more, rows-long, rows-ready, rows-done}
 use Rattle.lifting.proofs.steps.run_step.Statement.{statement}
