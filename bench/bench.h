@@ -62,22 +62,47 @@ estimated plain_estimate(const setting *s, const uint8_t *choices, int32_t *cons
 estimated plain_search(const setting *s, uint32_t rounds, uint8_t *choices, int32_t *const planes[3],
                        int32_t *const trial[3], uint32_t *counters);
 
+/* graymaps.c; planes count from 1 here, and only the size, depth and transform of a setting matter */
+typedef struct {
+    uint32_t refusal, length;
+} written;
+typedef struct {
+    uint32_t refusal, width, height;
+} graymap;
+written plain_p5_write(const setting *s, uint32_t plane, const int32_t *samples, size_t count, uint8_t *file,
+                       size_t room);
+graymap plain_p5_read(const setting *s, uint32_t plane, const uint8_t *file, size_t length, int32_t *samples,
+                      size_t count);
+uint32_t plain_p6_planes(const uint8_t *file, size_t length, int32_t *const planes[3], size_t count);
+
 /* cases.c */
-enum kind { TRANSFORM, WRAPPED_TRANSFORM, BANDED, WRAPPED_BANDED, ESTIMATE, SEARCH, KINDS };
+enum kind { TRANSFORM, WRAPPED_TRANSFORM, BANDED, WRAPPED_BANDED, ESTIMATE, SEARCH, GRAYMAP, PIXMAP, KINDS };
 /* bits of a set of calls, in the order of their names */
 enum call {
     FORWARD = 1, INVERSE = 2, FORWARD_WRAPPED = 4, INVERSE_WRAPPED = 8,
     FORWARD_BANDED = 16, INVERSE_BANDED = 32, FORWARD_WRAPPED_BANDED = 64, INVERSE_WRAPPED_BANDED = 128,
-    ESTIMATES = 256, SEARCHES = 512
+    ESTIMATES = 256, SEARCHES = 512, P5_WRITE = 1024, P5_READ = 2048, P6_PLANES = 4096
 };
-#define CALLS 10
+#define CALLS 13
 #define PLAIN_FORMS (FORWARD | INVERSE)
 #define WRAPPED_FORMS (FORWARD_WRAPPED | INVERSE_WRAPPED)
 #define BANDED_FORMS (FORWARD_BANDED | INVERSE_BANDED)
 #define WRAPPED_BANDED_FORMS (FORWARD_WRAPPED_BANDED | INVERSE_WRAPPED_BANDED)
+#define GRAYMAPS (P5_WRITE | P5_READ | P6_PLANES)
 #define INVERSES (INVERSE | INVERSE_WRAPPED | INVERSE_BANDED | INVERSE_WRAPPED_BANDED)
 #define MOST_MIXED 4
 #define MOST_BANDS 8192
+#define MOST_TURNS 1000
+
+/* UNBANDED: the library's plain call, beside banded ones; COPY: memcpy of the planes that a call is about */
+enum side { PLAIN, LIBRARY, UNBANDED, COPY, SIDES };
+
+typedef struct {
+    double best[SIDES], last[SIDES];                /* in ms */
+    double ratios[MOST_TURNS + MOST_MIXED];         /* library to plain C, by turn */
+    double to_plain[MOST_TURNS + MOST_MIXED];       /* banded to plain calls, by round of sets */
+    double banded, plain;                           /* the round's means so far */
+} times;
 
 /* Filters of a case: place p of band i has number (i + p) modulo the count. One filter is the same everywhere. */
 typedef struct {
@@ -85,9 +110,26 @@ typedef struct {
     uint32_t count;
     uint8_t filters[MOST_MIXED];
 } mix;
-extern const char *const call_names[CALLS];
+extern const char *const call_names[CALLS], *const transform_names[TRANSFORMS];
 extern double worst_ratio[KINDS], worst_to_plain;   /* 0: none has run */
+extern int32_t *picture[3], *work[UNBANDED + 1][3];   /* sets of work planes; the sides change sets between turns */
+/* arguments of the library's calls */
+#define DEPTHS(s) (s)->depth, (s)->depth, (s)->depth   /* one for all planes */
+#define SETTING(s) (uint32_t)(s)->width, (uint32_t)(s)->height, DEPTHS(s), (s)->transform
+#define PLANES(s, p) p[0], (s)->width * (s)->height, p[1], (s)->width * (s)->height, p[2], (s)->width * (s)->height
+double now(void);
+void keep(times *t, enum side side, double since);
+void *touched(size_t bytes, uint32_t number);
+void copy_picture(const setting *s, int32_t *const to[3], times *t);
+int same_planes(const setting *s, int32_t *const a[3], int32_t *const b[3]);
+void expect(int equal, const char *what, const setting *s);
+void print_times(enum kind kind, const char *call, const char *name, const setting *s, const char *filters, times *t,
+                 uint32_t turns);
 void allocate(size_t widest_square, uint32_t sets_of_planes);
 void draw_picture(const setting *s);
 void run_case(enum kind kind, const setting *s, const mix *m, uint32_t calls, uint32_t turns);
+
+/* graymap_cases.c */
+void allocate_files(size_t widest_square);
+void run_graymaps(size_t square, uint32_t calls, uint32_t turns);
 #endif

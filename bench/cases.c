@@ -11,26 +11,16 @@
 #include <time.h>
 
 #define ROUNDS 2
-#define MOST_TURNS 1000
 const char *const call_names[CALLS] = {
     "forward", "inverse", "forward_wrapped", "inverse_wrapped",
-    "forward_banded", "inverse_banded", "forward_wrapped_banded", "inverse_wrapped_banded", "estimate", "search"
+    "forward_banded", "inverse_banded", "forward_wrapped_banded", "inverse_wrapped_banded", "estimate", "search",
+    "p5_write", "p5_read", "p6_planes"
 };
-static const char *const transform_names[TRANSFORMS] = {"RCT", "YCoCg-R", "RDgDb", "LDgEb"};
+const char *const transform_names[TRANSFORMS] = {"RCT", "YCoCg-R", "RDgDb", "LDgEb"};
 double worst_ratio[KINDS], worst_to_plain;
 
-/* UNBANDED: the library's plain call, beside banded ones; COPY: memcpy of three planes */
-enum side { PLAIN, LIBRARY, UNBANDED, COPY, SIDES };
-
-static int32_t *picture[3], *work[UNBANDED + 1][3];   /* sets of work planes; the sides change sets between turns */
+int32_t *picture[3], *work[UNBANDED + 1][3];
 static uint32_t *counters[2];
-
-typedef struct {
-    double best[SIDES], last[SIDES];                /* in ms */
-    double ratios[MOST_TURNS + MOST_MIXED];         /* library to plain C, by turn */
-    double to_plain[MOST_TURNS + MOST_MIXED];       /* banded to plain calls, by round of sets */
-    double banded, plain;                           /* the round's means so far */
-} times;
 
 /* The sides of a case that runs a transform. */
 typedef struct {
@@ -41,14 +31,14 @@ typedef struct {
 } contest;
 
 /* The process's own time: what other programs take of the processor does not count. */
-static double now(void)
+double now(void)
 {
     struct timespec t;
     clock_gettime(CLOCK_PROCESS_CPUTIME_ID, &t);
     return 1e3 * (double)t.tv_sec + 1e-6 * (double)t.tv_nsec;
 }
 
-static void keep(times *t, enum side side, double since)
+void keep(times *t, enum side side, double since)
 {
     t->last[side] = now() - since;
     if (t->best[side] == 0 || t->last[side] < t->best[side])
@@ -68,7 +58,7 @@ static double middle(double *ratios, uint32_t count)
 }
 
 /* Memory with every page touched. The planes of a set start at different places in a page. */
-static void *touched(size_t bytes, uint32_t number)
+void *touched(size_t bytes, uint32_t number)
 {
     size_t whole = (bytes / 4096 + 2) * 4096;
     char *p = aligned_alloc(4096, whole);
@@ -106,7 +96,7 @@ void draw_picture(const setting *s)
             }
 }
 
-static void copy_picture(const setting *s, int32_t *const to[3], times *t)
+void copy_picture(const setting *s, int32_t *const to[3], times *t)
 {
     double since = now();
     for (uint32_t i = 0; i < 3; i++)
@@ -114,13 +104,13 @@ static void copy_picture(const setting *s, int32_t *const to[3], times *t)
     keep(t, COPY, since);
 }
 
-static int same_planes(const setting *s, int32_t *const a[3], int32_t *const b[3])
+int same_planes(const setting *s, int32_t *const a[3], int32_t *const b[3])
 {
     size_t bytes = 4 * s->width * s->height;
     return !memcmp(a[0], b[0], bytes) && !memcmp(a[1], b[1], bytes) && !memcmp(a[2], b[2], bytes);
 }
 
-static void expect(int equal, const char *what, const setting *s)
+void expect(int equal, const char *what, const setting *s)
 {
     if (equal)
         return;
@@ -128,10 +118,6 @@ static void expect(int equal, const char *what, const setting *s)
             s->wrapped ? " wrapped" : "", s->band_height ? " banded" : "", s->width, s->height, s->depth);
     exit(1);
 }
-
-#define DEPTHS(s) (s)->depth, (s)->depth, (s)->depth   /* one for all planes */
-#define SETTING(s) (uint32_t)(s)->width, (uint32_t)(s)->height, DEPTHS(s), (s)->transform
-#define PLANES(s, p) p[0], (s)->width * (s)->height, p[1], (s)->width * (s)->height, p[2], (s)->width * (s)->height
 
 #define CHOICES(s, c) c, bands_of(s) * places_of((s)->transform)
 
@@ -285,15 +271,23 @@ static void turn_search(uint32_t turn, uint32_t rounds, const setting *s, const 
 
 static double worse(double a, double b) { return a > b ? a : b; }
 
+/* A line without its end. */
+void print_times(enum kind kind, const char *call, const char *name, const setting *s, const char *filters, times *t,
+                 uint32_t turns)
+{
+    double ratio = middle(t->ratios, turns);
+    worst_ratio[kind] = worse(worst_ratio[kind], ratio);
+    printf("%-23s%-8s %5zu %5u %6s %11.3f %11.3f %6.2f %9.2f", call, name, s->width, s->depth, filters,
+           t->best[LIBRARY], t->best[PLAIN], ratio, t->best[LIBRARY] / t->best[COPY]);
+}
+
 static void print_case(enum kind kind, const char *call, const contest *c, const char *filters, times *t,
                        uint32_t turns)
 {
     const setting *s = c->s;
-    double ratio = middle(t->ratios, turns), to_plain = s->band_height ? middle(t->to_plain, turns / c->sets) : 0;
-    worst_ratio[kind] = worse(worst_ratio[kind], ratio);
+    double to_plain = s->band_height ? middle(t->to_plain, turns / c->sets) : 0;
     worst_to_plain = worse(worst_to_plain, to_plain);
-    printf("%-23s%-8s %5zu %5u %6s %11.3f %11.3f %6.2f %9.2f", call, transform_names[s->transform], s->width, s->depth,
-           filters, t->best[LIBRARY], t->best[PLAIN], ratio, t->best[LIBRARY] / t->best[COPY]);
+    print_times(kind, call, transform_names[s->transform], s, filters, t, turns);
     if (s->band_height) printf(" %8.2f\n", to_plain);
     else printf(" %8s\n", "-");
     fflush(stdout);

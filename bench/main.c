@@ -30,8 +30,9 @@ static const struct {
 static void usage(void)
 {
     fputs("options, with their defaults; lists have commas:\n"
-          "  -c forward,inverse,forward_wrapped,inverse_wrapped,banded,estimate,search\n"
-          "                   banded is forward_banded,inverse_banded,forward_wrapped_banded,inverse_wrapped_banded\n"
+          "  -c forward,inverse,forward_wrapped,inverse_wrapped,banded,estimate,search,graymaps\n"
+          "                   banded is forward_banded,inverse_banded,forward_wrapped_banded,inverse_wrapped_banded;\n"
+          "                   graymaps is p5_write,p5_read,p6_planes, with depths and planes of their own\n"
           "  -t 0,1,2,3       transforms\n"
           "  -f 0,1,5,11,12   filters, each at all places; banded calls also with filters that differ: place p of\n"
           "                   band i has number (i + p) modulo 4 of 1,3,5,11 (means) or of 0,1,5,12 (mixed)\n"
@@ -39,7 +40,8 @@ static void usage(void)
           "  -s 512,2048      sizes of squares, 1 to 8192\n"
           "  -b 64            rows of a band, 1 to 8192; in lower pictures all rows\n"
           "  -r 0             runs of each side; 0: by the time they take\n"
-          "  -a               depths 8,16; sizes 512,1024,2048,4096 (banded, estimate and search: 512,2048)\n",
+          "  -a               depths 8,16; sizes 512,1024,2048,4096 (banded, estimate,\n"
+          "                   search and graymaps: 512,2048)\n",
           stderr);
     exit(2);
 }
@@ -64,6 +66,8 @@ static uint32_t call_named(const char *word)
 {
     if (!strcmp(word, "banded"))
         return ALL_BANDED;
+    if (!strcmp(word, "graymaps"))
+        return GRAYMAPS;
     for (uint32_t i = 0; i < CALLS; i++)
         if (!strcmp(word, call_names[i]))
             return 1u << i;
@@ -120,7 +124,7 @@ static void run_setting(const setting *s, const numbers *filters, uint32_t band_
 static void print_worst(void)
 {
     static const char *const names[KINDS] = {
-        "transforms", "wrapped", "banded", "wrapped_banded", "estimates", "searches"
+        "transforms", "wrapped", "banded", "wrapped_banded", "estimates", "searches", "graymaps", "pixmaps"
     };
     fputs("worst ratio:", stdout);
     for (uint32_t i = 0; i < KINDS; i++)
@@ -130,42 +134,65 @@ static void print_worst(void)
     puts("");
 }
 
-int main(int argc, char **argv)
+typedef struct {
+    numbers transforms, filters, depths, sizes;
+    uint32_t calls, turns, rows;
+    int all;
+} options;
+
+static options read_options(int argc, char **argv)
 {
-    numbers t = {{0, 1, 2, 3}, 4}, f = {{0, 1, 5, 11, 12}, 5}, d = {{8}, 1}, s = {{512, 2048}, 2};
-    uint32_t calls = PLAIN_FORMS | WRAPPED_FORMS | ALL_BANDED | ESTIMATES | SEARCHES, turns = 0, most = 0, rows = 64;
-    int all = 0, o;
-    while ((o = getopt(argc, argv, "c:t:f:d:s:b:r:ah")) != -1)
-        switch (o) {
-        case 'c': calls = read_calls(optarg); break;
-        case 't': t = read_numbers(optarg, 0, 3); break;
-        case 'f': f = read_numbers(optarg, 0, 12); break;
-        case 'd': d = read_numbers(optarg, 2, 16); break;
-        case 's': s = read_numbers(optarg, 1, 8192); break;
-        case 'b': rows = read_numbers(optarg, 1, 8192).list[0]; break;
-        case 'r': turns = read_numbers(optarg, 0, 1000).list[0]; break;
-        case 'a': all = 1; break;
+    uint32_t calls = PLAIN_FORMS | WRAPPED_FORMS | ALL_BANDED | ESTIMATES | SEARCHES | GRAYMAPS;
+    options o = {{{0, 1, 2, 3}, 4}, {{0, 1, 5, 11, 12}, 5}, {{8}, 1}, {{512, 2048}, 2}, calls, 0, 64, 0};
+    int letter;
+    while ((letter = getopt(argc, argv, "c:t:f:d:s:b:r:ah")) != -1)
+        switch (letter) {
+        case 'c': o.calls = read_calls(optarg); break;
+        case 't': o.transforms = read_numbers(optarg, 0, 3); break;
+        case 'f': o.filters = read_numbers(optarg, 0, 12); break;
+        case 'd': o.depths = read_numbers(optarg, 2, 16); break;
+        case 's': o.sizes = read_numbers(optarg, 1, 8192); break;
+        case 'b': o.rows = read_numbers(optarg, 1, 8192).list[0]; break;
+        case 'r': o.turns = read_numbers(optarg, 0, 1000).list[0]; break;
+        case 'a': o.all = 1; break;
         default: usage();
         }
     if (optind < argc)
         usage();
-    if (all)
-        d = (numbers){{8, 16}, 2}, s = (numbers){{512, 1024, 2048, 4096}, 4};
-    for (uint32_t i = 0; i < s.count; i++)
-        most = s.list[i] > most ? s.list[i] : most;
-    allocate(most, calls & ALL_BANDED ? 3 : 2);
+    if (o.all)
+        o.depths = (numbers){{8, 16}, 2}, o.sizes = (numbers){{512, 1024, 2048, 4096}, 4};
+    return o;
+}
+
+static void run_size(const options *o, uint32_t size)
+{
+    int transforms_only = o->all && size != 512 && size != 2048;
+    uint32_t calls = transforms_only ? o->calls & (PLAIN_FORMS | WRAPPED_FORMS) : o->calls;
+    for (uint32_t j = 0; j < o->depths.count; j++)
+        for (uint32_t k = 0; k < o->transforms.count; k++) {
+            setting one = {size, size, o->depths.list[j], o->transforms.list[k], 0, 0};
+            if (k == 0)
+                draw_picture(&one);
+            run_setting(&one, &o->filters, o->rows, calls, o->turns);
+        }
+    if (calls & GRAYMAPS)
+        run_graymaps(size, calls, o->turns);
+}
+
+int main(int argc, char **argv)
+{
+    options o = read_options(argc, argv);
+    uint32_t most = 0;
+    for (uint32_t i = 0; i < o.sizes.count; i++)
+        most = o.sizes.list[i] > most ? o.sizes.list[i] : most;
+    allocate(most, o.calls & ALL_BANDED ? 3 : 2);
+    if (o.calls & GRAYMAPS)
+        allocate_files(most);
     fill_logarithms();
     printf("%-31s %5s %5s %6s %11s %11s %6s %9s %8s\n", "call", "size", "depth", "filter", "library ms", "C ms",
            "ratio", "to memcpy", "to plain");
-    for (uint32_t i = 0; i < s.count; i++)
-        for (uint32_t j = 0; j < d.count; j++)
-            for (uint32_t k = 0; k < t.count; k++) {
-                setting one = {s.list[i], s.list[i], d.list[j], t.list[k], 0, 0};
-                int transforms_only = all && one.width != 512 && one.width != 2048;
-                if (k == 0)
-                    draw_picture(&one);
-                run_setting(&one, &f, rows, transforms_only ? calls & (PLAIN_FORMS | WRAPPED_FORMS) : calls, turns);
-            }
+    for (uint32_t i = 0; i < o.sizes.count; i++)
+        run_size(&o, o.sizes.list[i]);
     print_worst();
     return 0;
 }

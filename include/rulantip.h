@@ -1,5 +1,6 @@
 /* The colour stage of a material capture library: four reversible colour transforms with a filter in
-   each lifting step, an entropy estimate, a filter search and a reader of P6 pixmaps.
+   each lifting step, an entropy estimate, a filter search, a reader of P6 pixmaps, and finished planes
+   as P5 graymaps.
 
    Link with target/staticlib/librulantip.a, which `rt staticlib rulantip` proves and writes.
 
@@ -28,9 +29,9 @@
    before anything is reduced. Null steps are skipped here too. At depth 8 and with filters 0, RDgDb's
    wrapped form gives 10, 66, 140 for the pixel 10, 200, 60, and its plain form 10, -190, 140.
    Every three planes of 0 to M are what exactly one picture goes to in a wrapped form. These forms
-   have calls of their own, with `wrapped` in their names; the estimate and the search are about the
-   plain forms. Nothing in the planes tells their form: bring them back by the inverse of the same
-   form, with the same choices. The other inverse may refuse them or leave another picture.
+   have calls of their own, with `wrapped` in their names; the estimate, the search and graymaps are
+   about the plain forms. Nothing in the planes tells their form: bring them back by the inverse of the
+   same form, with the same choices. The other inverse may refuse them or leave another picture.
 
    BANDS change the filters down the picture. A band is band_height rows, counted from the top; the last
    band may be shorter. So there are (height + band_height - 1) / band_height bands, rounded down, and
@@ -42,6 +43,27 @@
    do equal sets for all bands. Bands have four calls, with `banded` in their names; the estimate and
    the search have none. The planes tell nothing of bands: bring them back with the same band height
    and choices.
+
+   PIXMAPS, Netpbm's P6, are read at depths 2 to 16: maxval is 2^b - 1, for all three planes. Up to depth
+   8 a sample is one byte, from depth 9 on two, most significant first. So the raster has
+   3 * width * height bytes up to depth 8, and 6 * width * height from depth 9.
+
+   GRAYMAPS, Netpbm's P5, hold one finished plane of a plain form each, for coders that read them. Each
+   number is written less the lowest of its plane's range, and maxval is the range's highest less its
+   lowest (RANGES below), whatever numbers the plane has. A sample is one byte where maxval is below 256,
+   else two, most significant first. The header is P5, line feed, width, blank, height, line feed,
+   maxval, line feed. At depth 8 plane 2 of RDgDb lies in -255 to 255, so its maxval is 510, and the
+   number -190 is written as 65, in the bytes 0 and 65.
+   A file is at most 19 + 2 * width * height bytes long, since no header is longer than that of an 8,192
+   by 8,192 plane with maxval 65,535. RULANTIP_P5_LENGTH tells that, for a buffer that always suffices.
+   No P5 file has a maxval above 65,535, so a plane with a wider range is refused with 13. Where all
+   planes have one depth, these are all planes at depth 16 but RDgDb's plane 1, and at depth 15 planes 2
+   and 3 of YCoCg-R and plane 3 of LDgEb. Where no depth is above 14 there are none.
+   The reader takes the headers that are right in P6, with the letters P5 and the plane's maxval: any
+   white space, comments, leading zeros. What it accepts has the same raster when rulantip_p5_write
+   writes it again. Nothing in a file tells its depths, transform and plane: read it with those of the
+   writing. Both calls hold numbers to the plane's range alone; rulantip_inverse tells whether a
+   picture goes to the three planes.
 
    WHAT A NUMBER DEPENDS ON. A picture's finished numbers at a pixel depend only on the samples at most d
    rows and d columns away, d being 1 for RDgDb, 2 for RCT, 3 for LDgEb and 4 for YCoCg-R, in all three
@@ -82,27 +104,32 @@ extern "C" {
 #define RULANTIP_RDGDB 2
 #define RULANTIP_LDGEB 3
 
-/* Refusals that whoever made a P6 file can cause. */
-#define RULANTIP_REFUSED_HEADER 1        /* the header does not have the form of P6 */
+/* Refusals that whoever made a P6 or P5 file can cause. */
+#define RULANTIP_REFUSED_HEADER 1        /* the header does not have the form of P6, of P5 in a graymap */
 #define RULANTIP_REFUSED_SIZE 2          /* width or height outside 1 to 8,192; also the calling program */
-#define RULANTIP_REFUSED_MAXVAL 3        /* maxval is not 3, 7, 15, 31, 63, 127 or 255 */
-#define RULANTIP_REFUSED_RASTER 4        /* other than 3 * width * height bytes follow the header */
+#define RULANTIP_REFUSED_MAXVAL 3        /* maxval is not 2^b - 1 for a depth b of 2 to 16; in a graymap
+                                            not the plane's highest number less its lowest */
+#define RULANTIP_REFUSED_RASTER 4        /* other than the bytes of 3 * width * height samples follow the
+                                            header, in a graymap of width * height */
 
 /* Refusals that the calling program can cause, with number 2. */
 #define RULANTIP_REFUSED_DEPTH 5         /* any of the three depths outside 2 to 16 */
-#define RULANTIP_REFUSED_TRANSFORM 6     /* transform above 3 */
+#define RULANTIP_REFUSED_TRANSFORM 6     /* transform above 3, or the number of a plane outside 1 to 3 */
 #define RULANTIP_REFUSED_CHOICES 7       /* not one choice for each place, with bands not one for each place
                                             of each band, or a choice above 12 */
 #define RULANTIP_REFUSED_PLANE 8         /* a plane's length is not width * height */
 #define RULANTIP_REFUSED_SCRATCH 9       /* a trial plane below width * height numbers, or too few counters */
 #define RULANTIP_REFUSED_ROUNDS 10       /* rounds outside 1 to 4 */
+#define RULANTIP_REFUSED_WIDE 13         /* the plane's maxval, highest number less lowest, is above 65,535 */
+#define RULANTIP_REFUSED_BUFFER 14       /* the buffer is shorter than the file */
 #define RULANTIP_REFUSED_UNEQUAL 16      /* a wrapped form, and the three depths differ */
 #define RULANTIP_REFUSED_BAND 17         /* band height 0 or above the picture's height */
 
 /* Refusals that whoever made the samples can cause. */
 #define RULANTIP_REFUSED_SAMPLE 11       /* a sample of the picture outside 0 to its plane's M; also a number
                                             of the planes that a wrapped form's inverse is lent */
-#define RULANTIP_REFUSED_UNREACHED 12    /* planes that no picture of these depths goes to */
+#define RULANTIP_REFUSED_UNREACHED 12    /* planes that no picture of these depths goes to; of a graymap, read
+                                            or written, a number outside the plane's range */
 
 /* RANGES of finished planes, under any choices; in a wrapped form they are 0 to M. M1, M2 and M3 are
    the highest samples of planes 1, 2 and 3, divisions round down, max is the greater of two;
@@ -380,18 +407,19 @@ typedef struct {
     uint32_t refusal;       /* 0, or the refusal's number */
     uint32_t width;         /* 1 to 8,192 */
     uint32_t height;        /* 1 to 8,192 */
-    uint32_t depth;         /* of all three planes, 2 to 8 */
+    uint32_t depth;         /* of all three planes, 2 to 16 */
 } rulantip_pixmap;
 
 /* Reads the header of a P6 file. Tests, in this order: 1, 2, 3, 4. After success the raster is the
-   file's last 3 * width * height bytes, R G B by pixel. The file is never changed. */
+   file's last 3 * width * height bytes, from depth 9 on 6 * width * height, R G B by pixel. The file is
+   never changed. */
 rulantip_pixmap rulantip_p6_header(
     const uint8_t *file,    /* the whole file */
     size_t file_len         /* its length in bytes */
 );
 
 /* Writes the raster of a P6 file to three planes. Tests, in this order: 1, 2, 3, 4, 8. After success
-   the planes hold R, G and B. A byte above maxval is written as it stands: the calls on pictures
+   the planes hold R, G and B. A sample above maxval is written as it stands: the calls on pictures
    refuse it with 11. The file is never changed. */
 uint32_t rulantip_p6_planes(
     const uint8_t *file,    /* the whole file */
@@ -402,6 +430,54 @@ uint32_t rulantip_p6_planes(
     size_t c2_len,          /* width * height */
     int32_t *c3,            /* receives B */
     size_t c3_len           /* width * height */
+);
+
+/* As many bytes are enough for the P5 file of any plane of this width and height. */
+#define RULANTIP_P5_LENGTH(width, height) ((size_t)19 + (size_t)2 * (width) * (height))
+
+/* The answer of the call that writes a graymap. */
+typedef struct {
+    uint32_t refusal;       /* 0, or the refusal's number */
+    uint32_t length;        /* of the file, in bytes */
+} rulantip_written;
+
+/* Writes a finished plane as a P5 file. Tests, in this order: 2, 5, 6, 8, 13, 14, 12 (a number outside
+   the plane's range). After success the file is the first part of the buffer, and the bytes behind it
+   are as on entry. The plane is never changed. */
+rulantip_written rulantip_p5_write(
+    uint32_t width,         /* of the plane, 1 to 8,192 */
+    uint32_t height,        /* of the plane, 1 to 8,192 */
+    uint32_t depth1,        /* of the picture's plane 1, R, 2 to 16 */
+    uint32_t depth2,        /* of the picture's plane 2, G, 2 to 16 */
+    uint32_t depth3,        /* of the picture's plane 3, B, 2 to 16 */
+    uint32_t transform,     /* that finished the plane, 0 to 3 */
+    uint32_t plane,         /* which of the three it is, 1 to 3 */
+    const int32_t *samples, /* the plane */
+    size_t samples_len,     /* width * height */
+    uint8_t *file,          /* the buffer that receives the file */
+    size_t file_len         /* the file's length or more; RULANTIP_P5_LENGTH tells what is enough */
+);
+
+/* The answer of the call that reads a graymap. */
+typedef struct {
+    uint32_t refusal;       /* 0, or the refusal's number */
+    uint32_t width;         /* 1 to 8,192 */
+    uint32_t height;        /* 1 to 8,192 */
+} rulantip_graymap;
+
+/* Reads the P5 file of a finished plane. Tests, in this order: 5, 6, 13, 1, 2, 3, 4, 8 (by the file's
+   width and height), 12 (a number outside the plane's range). After success the plane holds the numbers
+   that were written. The file is never changed. */
+rulantip_graymap rulantip_p5_read(
+    uint32_t depth1,        /* as in rulantip_p5_write, up to the plane's number */
+    uint32_t depth2,
+    uint32_t depth3,
+    uint32_t transform,
+    uint32_t plane,
+    const uint8_t *file,    /* the whole file */
+    size_t file_len,        /* its length in bytes */
+    int32_t *samples,       /* receives the plane */
+    size_t samples_len      /* width * height of the file */
 );
 
 #ifdef __cplusplus

@@ -22,12 +22,16 @@ pub fn picture(width: u32, height: u32, depths: [u32; 3], seed: u32) -> [Vec<i32
     depths.map(|depth| (0..samples).map(|_| (numbers.next() % (1 << depth)) as i32).collect())
 }
 
-/// The P6 file of a picture whose planes all have a depth of 2 to 8, with the plainest header.
+/// The P6 file of a picture whose planes have one depth, with the plainest header.
 pub fn pixmap(width: u32, height: u32, depth: u32, planes: &[Vec<i32>; 3]) -> Vec<u8> {
     let mut file = format!("P6\n{width} {height}\n{}\n", (1u32 << depth) - 1).into_bytes();
     for i in 0..planes[0].len() {
         for plane in planes {
-            file.push(u8::try_from(plane[i]).expect("a sample of one byte"));
+            if depth <= 8 {
+                file.push(u8::try_from(plane[i]).expect("a sample of one byte"));
+            } else {
+                file.extend(u16::try_from(plane[i]).expect("a sample of two bytes").to_be_bytes());
+            }
         }
     }
     file
@@ -43,5 +47,6 @@ mod tests {
         assert_eq!(picture(1, 1, [8; 3], 0), [[110], [80], [204]]);
         assert_eq!(picture(1, 1, [2, 16, 3], 0), [[2], [18256], [4]]);
         assert_eq!(pixmap(2, 1, 2, &[vec![0, 1], vec![2, 3], vec![1, 0]]), b"P6\n2 1\n3\n\x00\x02\x01\x01\x03\x00");
+        assert_eq!(pixmap(1, 1, 9, &[vec![511], vec![2], vec![256]]), b"P6\n1 1\n511\n\x01\xff\x00\x02\x01\x00");
     }
 }

@@ -22,13 +22,15 @@ pub enum Refusal {
     Rounds = 10,
     Sample = 11,
     Unreached = 12,
+    Wide = 13,
+    Buffer = 14,
     Unequal = 16,
     Band = 17,
 }
 
 impl Refusal {
     /// Every refusal, in the order of the numbers.
-    pub const ALL: [Refusal; 14] = [
+    pub const ALL: [Refusal; 16] = [
         Refusal::Header,
         Refusal::Size,
         Refusal::Maxval,
@@ -41,6 +43,8 @@ impl Refusal {
         Refusal::Rounds,
         Refusal::Sample,
         Refusal::Unreached,
+        Refusal::Wide,
+        Refusal::Buffer,
         Refusal::Unequal,
         Refusal::Band,
     ];
@@ -53,18 +57,20 @@ impl Refusal {
 impl fmt::Display for Refusal {
     fn fmt(&self, f: &mut fmt::Formatter<'_>) -> fmt::Result {
         f.write_str(match self {
-            Refusal::Header => "the header does not have the form of P6",
+            Refusal::Header => "the header does not have the form of P6, or of P5",
             Refusal::Size => "width or height is outside 1 to 8,192",
-            Refusal::Maxval => "maxval is not 3, 7, 15, 31, 63, 127 or 255",
-            Refusal::Raster => "other than 3 * width * height bytes follow the header",
+            Refusal::Maxval => "maxval is not 2^b - 1 for a depth b of 2 to 16, or in P5 not the plane's",
+            Refusal::Raster => "other than the bytes of width * height pixels follow the header",
             Refusal::Depth => "a depth is outside 2 to 16",
-            Refusal::Transform => "the transform is above 3",
+            Refusal::Transform => "the transform is above 3, or the plane's number outside 1 to 3",
             Refusal::Choices => "the number of choices is wrong, or a choice is above 12",
             Refusal::Plane => "a plane's length is not width * height",
             Refusal::Scratch => "a trial plane is short, or there are too few counters",
             Refusal::Rounds => "the rounds are outside 1 to 4",
             Refusal::Sample => "a sample is outside its plane's depth",
-            Refusal::Unreached => "no picture goes to these planes",
+            Refusal::Unreached => "no picture goes to these planes, or a graymap's sample is outside its plane's range",
+            Refusal::Wide => "the plane's highest number less its lowest is above 65,535",
+            Refusal::Buffer => "the buffer is shorter than the file",
             Refusal::Unequal => "the three depths differ",
             Refusal::Band => "the band height is 0 or above the picture's",
         })
@@ -104,6 +110,21 @@ pub struct Pixmap<'a> {
     /// Of all three planes.
     pub depth: u32,
     pub raster: &'a [u8],
+}
+
+/// A finished plane, 1 to 3, of the plain form of the transform at the depths.
+#[derive(Clone, Copy, Debug)]
+pub struct FinishedPlane {
+    pub depths: [u32; 3],
+    pub transform: u32,
+    pub plane: u32,
+}
+
+/// What the header of a P5 file says.
+#[derive(Clone, Copy, Debug, PartialEq, Eq)]
+pub struct Graymap {
+    pub width: u32,
+    pub height: u32,
 }
 
 /// How many counters the estimate and the search need; None where they would refuse a depth or the transform.
@@ -236,7 +257,8 @@ pub fn pixmap(file: &[u8]) -> Result<Pixmap<'_>, Refusal> {
     // SAFETY: pointer and length are a slice's.
     let answer = unsafe { c::rulantip_p6_header(file.as_ptr(), file.len()) };
     refusal(answer.refusal)?;
-    let raster = 3 * answer.width as usize * answer.height as usize;
+    let bytes = if answer.depth <= 8 { 3 } else { 6 };
+    let raster = bytes * answer.width as usize * answer.height as usize;
     Ok(Pixmap { width: answer.width, height: answer.height, depth: answer.depth, raster: &file[file.len() - raster..] })
 }
 
@@ -252,6 +274,45 @@ pub fn pixmap_planes(file: &[u8], planes: [&mut [i32]; 3]) -> Result<(), Refusal
         )
     };
     refusal(answer)
+}
+
+/// A buffer of so many bytes is long enough for a plane's P5 file.
+pub fn graymap_length(width: u32, height: u32) -> usize {
+    19 + 2 * width as usize * height as usize
+}
+
+/// Writes a finished plane as a P5 file. The answer is its length; the bytes behind it are left as they are.
+pub fn write_graymap(
+    width: u32,
+    height: u32,
+    of: FinishedPlane,
+    samples: &[i32],
+    file: &mut [u8],
+) -> Result<usize, Refusal> {
+    let FinishedPlane { depths: [depth1, depth2, depth3], transform, plane } = of;
+    // SAFETY: every pointer and length is a slice's; what is written is lent as &mut.
+    #[rustfmt::skip]
+    let answer = unsafe {
+        c::rulantip_p5_write(
+            width, height, depth1, depth2, depth3, transform, plane,
+            samples.as_ptr(), samples.len(), file.as_mut_ptr(), file.len(),
+        )
+    };
+    refusal(answer.refusal).map(|()| answer.length as usize)
+}
+
+/// Reads the P5 file of a finished plane.
+pub fn read_graymap(of: FinishedPlane, file: &[u8], samples: &mut [i32]) -> Result<Graymap, Refusal> {
+    let FinishedPlane { depths: [depth1, depth2, depth3], transform, plane } = of;
+    // SAFETY: every pointer and length is a slice's; what is written is lent as &mut.
+    #[rustfmt::skip]
+    let answer = unsafe {
+        c::rulantip_p5_read(
+            depth1, depth2, depth3, transform, plane,
+            file.as_ptr(), file.len(), samples.as_mut_ptr(), samples.len(),
+        )
+    };
+    refusal(answer.refusal).map(|()| Graymap { width: answer.width, height: answer.height })
 }
 
 fn refusal(number: u32) -> Result<(), Refusal> {
@@ -315,6 +376,21 @@ pub mod c {
         pub width: u32,
         pub height: u32,
         pub depth: u32,
+    }
+
+    #[repr(C)]
+    #[derive(Clone, Copy, Debug, PartialEq, Eq)]
+    pub struct RulantipWritten {
+        pub refusal: u32,
+        pub length: u32,
+    }
+
+    #[repr(C)]
+    #[derive(Clone, Copy, Debug, PartialEq, Eq)]
+    pub struct RulantipGraymap {
+        pub refusal: u32,
+        pub width: u32,
+        pub height: u32,
     }
 
     /// The type of the four calls that change planes in place, without bands.
@@ -413,5 +489,18 @@ pub mod c {
             file: *const u8, file_len: usize,
             c1: *mut i32, c1_len: usize, c2: *mut i32, c2_len: usize, c3: *mut i32, c3_len: usize,
         ) -> u32;
+
+        pub fn rulantip_p5_write(
+            width: u32, height: u32, depth1: u32, depth2: u32, depth3: u32, transform: u32,
+            plane: u32,
+            samples: *const i32, samples_len: usize,
+            file: *mut u8, file_len: usize,
+        ) -> RulantipWritten;
+
+        pub fn rulantip_p5_read(
+            depth1: u32, depth2: u32, depth3: u32, transform: u32, plane: u32,
+            file: *const u8, file_len: usize,
+            samples: *mut i32, samples_len: usize,
+        ) -> RulantipGraymap;
     }
 }

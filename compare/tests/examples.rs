@@ -2,10 +2,8 @@
 //! reference. The header is also compiled as C++, and its macros and its table of ranges are tried.
 
 use compare::generator;
-use compare::reference::{
-    all_depths, counters, forward, forward_wrapped, pixmap_header, pixmap_planes, places, ranges,
-};
-use compare::reference::{search, Scratch, Settings, NAMES};
+use compare::reference::{all_depths, counters, forward, forward_wrapped, graymap_file, places, ranges, search};
+use compare::reference::{pixmap_header, pixmap_planes, sample_bytes, FinishedPlane, Scratch, Settings, NAMES};
 use std::fmt::Write;
 use std::fs;
 use std::path::{Path, PathBuf};
@@ -26,8 +24,8 @@ fn run(command: &mut Command) -> Output {
     command.output().unwrap_or_else(|error| panic!("{command:?}: {error}"))
 }
 
-fn build(example: &str) -> PathBuf {
-    let out = folder(example);
+/// Builds the programs of a language in the folder.
+fn build(example: &str, out: &Path) {
     let archive = fs::canonicalize(env!("RULANTIP_ARCHIVE_FOLDER")).expect("the folder of librulantip.a");
     let made = run(Command::new("make")
         .arg("-B")
@@ -36,7 +34,6 @@ fn build(example: &str) -> PathBuf {
         .arg(format!("ARCHIVE={}", archive.display()))
         .arg(format!("OUT={}", out.display())));
     assert!(made.status.success(), "{}", String::from_utf8_lossy(&made.stderr));
-    out.join("roundtrip")
 }
 
 /// What an example prints of finished planes that then come back.
@@ -50,13 +47,18 @@ fn held(planes: [Vec<i32>; 3]) -> String {
     text
 }
 
-/// What an example prints for a file with no fault.
-fn expected(file: &[u8]) -> String {
+/// Width, height and depth of a file with no fault, and its planes.
+fn picture(file: &[u8]) -> ([u32; 3], [Vec<i32>; 3]) {
     let header = pixmap_header(file).unwrap();
-    let (width, height, depth) = (header.width, header.height, header.depth);
-    let samples = width as usize * height as usize;
-    let planes = pixmap_planes(file, [samples; 3]).unwrap();
+    let samples = header.width as usize * header.height as usize;
+    ([header.width, header.height, header.depth], pixmap_planes(file, [samples; 3]).unwrap())
+}
+
+/// What the example prints for a file with no fault.
+fn expected(file: &[u8]) -> String {
+    let ([width, height, depth], planes) = picture(file);
     let planes = planes.each_ref().map(Vec::as_slice);
+    let samples = planes[0].len();
     let mut text = format!("width {width} height {height} depth {depth}\ntransform filters estimate samples\n");
     let mut best: Option<(u32, Settings, Vec<u8>)> = None;
     for (transform, name) in (0..4).zip(NAMES) {
@@ -73,7 +75,7 @@ fn expected(file: &[u8]) -> String {
     let (_, settings, filters) = best.unwrap();
     writeln!(text, "best {}", NAMES[settings.transform as usize]).unwrap();
     text += &held(forward(settings, None, &filters, planes).unwrap());
-    writeln!(text, "wrapped, in {} bytes", 3 * samples).unwrap();
+    writeln!(text, "wrapped, in {} bytes", 3 * samples * sample_bytes((1 << depth) - 1)).unwrap();
     text += &held(forward_wrapped(settings, None, &filters, planes).unwrap());
     let rows = height.min(16);
     writeln!(text, "in bands of {rows} rows, every second one left as it is").unwrap();
@@ -99,35 +101,95 @@ fn files() -> Vec<Vec<u8>> {
         generated(1, 1, 2, 1),
         generated(13, 7, 5, 2),
         generated(70, 60, 8, 3),
+        generated(5, 40, 9, 4),
+        generated(6, 5, 15, 5),
+        generated(3, 3, 16, 6),
         generator::pixmap(width, height, 8, &smooth),
     ]
 }
 
+/// Files that the examples refuse, and what they say of them.
+const REFUSED: [(&[u8], &str); 8] = [
+    (b"P5 1 1 255 abc", "refused 1, the header"),
+    (b"P6 1 0 255 ", "refused 2, width"),
+    (b"P6 1 1 1 abc", "refused 3, maxval"),
+    (b"P6 1 1 512 abcdef", "refused 3, maxval"),
+    (b"P6 1 1 255 ab", "refused 4, other than"),
+    (b"P6 1 1 511 abc", "refused 4, other than"),
+    (b"P6 1 1 3 \x01\x02\x04", "refused 11, a sample"),
+    (b"P6 1 1 511 \x01\xff\x01\xff\x02\x00", "refused 11, a sample"),
+];
+
+/// What the program says of its words; it must find a fault.
+fn refused(program: &Path, words: &[&Path]) -> String {
+    let output = run(Command::new(program).args(words));
+    assert_eq!(output.status.code(), Some(1));
+    String::from_utf8_lossy(&output.stderr).to_string()
+}
+
+/// What the program prints for its words; it must find no fault.
+fn printed(program: &Path, words: &[&Path]) -> String {
+    let output = run(Command::new(program).args(words));
+    assert_eq!(String::from_utf8_lossy(&output.stderr), "");
+    assert!(output.status.success());
+    String::from_utf8_lossy(&output.stdout).to_string()
+}
+
 fn example(name: &str) {
-    let program = build(name);
-    let picture = folder(name).join("picture.ppm");
+    let out = folder(name);
+    build(name, &out);
+    let [program, picture] = ["roundtrip", "picture.ppm"].map(|name| out.join(name));
     for file in files() {
         fs::write(&picture, &file).unwrap();
-        let output = run(Command::new(&program).arg(&picture));
-        assert_eq!(String::from_utf8_lossy(&output.stderr), "");
-        assert_eq!(String::from_utf8_lossy(&output.stdout), expected(&file));
-        assert!(output.status.success());
+        assert_eq!(printed(&program, &[&picture]), expected(&file));
     }
-    for (file, refusal) in [
-        (&b"P5 1 1 255 abc"[..], "refused 1, the header"),
-        (b"P6 1 0 255 ", "refused 2, width"),
-        (b"P6 1 1 1 abc", "refused 3, maxval"),
-        (b"P6 1 1 255 ab", "refused 4, other than"),
-        (b"P6 1 1 3 \x01\x02\x04", "refused 11, a sample"),
-    ] {
+    for (file, words) in REFUSED {
         fs::write(&picture, file).unwrap();
-        let output = run(Command::new(&program).arg(&picture));
-        let said = String::from_utf8_lossy(&output.stderr).to_string();
-        assert!(said.contains(refusal), "{said}");
-        assert_eq!(output.status.code(), Some(1));
+        let said = refused(&program, &[&picture]);
+        assert!(said.contains(words), "{said}");
     }
-    let output = run(Command::new(&program).arg(folder(name).join("none.ppm")));
-    assert_eq!(output.status.code(), Some(1));
+    refused(&program, &[&out.join("none.ppm")]);
+}
+
+/// The three files that `graymaps` writes, or the refusal of the first that it cannot write.
+fn graymaps(file: &[u8]) -> Result<[Vec<u8>; 3], u32> {
+    let ([width, height, depth], planes) = picture(file);
+    let settings = Settings { width, height, depths: [depth; 3], transform: 2 };
+    let finished = forward(settings, None, &[1, 1], planes.each_ref().map(Vec::as_slice)).unwrap();
+    let file = |number: usize| {
+        let of = FinishedPlane { depths: [depth; 3], transform: 2, plane: number as u32 };
+        graymap_file(width, height, of, &finished[number - 1], usize::MAX)
+    };
+    Ok([file(1)?, file(2)?, file(3)?])
+}
+
+#[test]
+fn c_graymaps() {
+    let out = folder("graymaps");
+    build("c", &out);
+    let [program, picture, prefix] = ["graymaps", "picture.ppm", "plane"].map(|name| out.join(name));
+    let names = [1, 2, 3].map(|number| out.join(format!("plane.{number}.pgm")));
+    for file in files() {
+        fs::write(&picture, &file).unwrap();
+        let Ok(expected) = graymaps(&file) else {
+            let said = refused(&program, &[&picture, &prefix]);
+            assert!(said.contains("plane.2.pgm: refused 13, the plane's highest"), "{said}");
+            continue;
+        };
+        let mut text = String::new();
+        for (name, file) in names.iter().zip(&expected) {
+            writeln!(text, "{} has {} bytes", name.display(), file.len()).unwrap();
+        }
+        let (_, planes) = self::picture(&file);
+        writeln!(text, "all {} samples came back", 3 * planes[0].len()).unwrap();
+        assert_eq!(printed(&program, &[&picture, &prefix]), text);
+        assert_eq!(names.each_ref().map(|name| fs::read(name).unwrap()), expected);
+    }
+    for (file, words) in REFUSED {
+        fs::write(&picture, file).unwrap();
+        let said = refused(&program, &[&picture, &prefix]);
+        assert!(said.contains(words), "{said}");
+    }
 }
 
 #[test]
@@ -153,6 +215,10 @@ fn header_alone() {
         writeln!(text, "typedef char at_{deepest}[RULANTIP_COUNTERS({deepest}) == {most} ? 1 : -1];").unwrap();
     }
     text += "typedef char most[RULANTIP_COUNTERS(16) == RULANTIP_COUNTERS_MAX ? 1 : -1];\n";
+    for (width, height) in [(1usize, 1usize), (3, 700), (8192, 8192)] {
+        let longest = "P5\n8192 8192\n65535\n".len() + 2 * width * height;
+        writeln!(text, "typedef char l_{width}[RULANTIP_P5_LENGTH({width}, {height}) == {longest} ? 1 : -1];").unwrap();
+    }
     fs::write(&source, text).unwrap();
     for (compiler, language, standard) in
         [("gcc", "c", "c99"), ("gcc", "c", "c17"), ("g++", "c++", "c++98"), ("g++", "c++", "c++17")]

@@ -32,4 +32,6 @@ fn cases() {
     assert_eq!(expected("estimate 1 1 8 4 0,0 0", b""), "refused 6\n");
     assert_eq!(expected("search 2 1 8 0 5 0", b""), "refused 10\n");
     assert_eq!(expected("pixmap 1 1 2 0", b"").len(), "P6\n1 1\n3\n".len() + 3);
+    // 15470, 18256 and 53708 modulo 512 are 110, 256 + 80 and 256 + 204.
+    assert!(expected("pixmap 1 1 9 0", b"").starts_with("P6\n1 1\n511\n\x00\x6e\x01\x50\x01"));
 }

@@ -1,6 +1,7 @@
 /* Reads a P6 file, finds the best transform and filters, transforms the picture and brings it back; then once more in
-   the wrapped form, whose planes fit bytes, and once in bands of rows, every second of which is left as it is. */
+   the wrapped form, whose planes fit the file's bytes, and once in bands of rows, every second of which is left as it is. */
 
+#include "common.h"
 #include "rulantip.h"
 
 #include <stdio.h>
@@ -9,76 +10,7 @@
 static const char *const names[4] = {"RCT", "YCoCg-R", "RDgDb", "LDgEb"};
 static const size_t places[4] = {4, 4, 2, 3};
 
-static const char *const causes[18] = {
-    "success",
-    "the header does not have the form of P6",
-    "width or height is outside 1 to 8,192",
-    "maxval is not 3, 7, 15, 31, 63, 127 or 255",
-    "other than 3 * width * height bytes follow the header",
-    "a depth is outside 2 to 16",
-    "the transform is above 3",
-    "the number of choices is wrong, or a choice is above 12",
-    "a plane's length is not width * height",
-    "a trial plane is short, or there are too few counters",
-    "the rounds are outside 1 to 4",
-    "a sample is outside its plane's depth",
-    "no picture goes to these planes",
-    NULL, NULL, NULL,
-    "the three depths differ",
-    "the band height is 0 or above the picture's",
-};
-
 enum { BAND_HEIGHT = 16, NULL_FILTER = 12 };
-
-static void stop(const char *what, const char *why)
-{
-    fprintf(stderr, "%s: %s\n", what, why);
-    exit(1);
-}
-
-static void stop_refused(const char *what, uint32_t refusal)
-{
-    const char *cause = refusal <= 17 ? causes[refusal] : NULL;
-
-    fprintf(stderr, "%s: refused %u, %s\n", what, (unsigned)refusal, cause != NULL ? cause : "no cause known");
-    exit(1);
-}
-
-static void *memory(size_t count, size_t size)
-{
-    void *p = calloc(count, size);
-    if (p == NULL)
-        stop("roundtrip", "no memory");
-    return p;
-}
-
-/* The whole file, and its length. */
-static uint8_t *read_file(const char *name, size_t *length)
-{
-    FILE *in = fopen(name, "rb");
-    size_t room = 65536;
-    uint8_t *bytes = memory(room, 1);
-
-    if (in == NULL)
-        stop(name, "cannot be opened");
-    *length = 0;
-    for (;;) {
-        size_t got = fread(bytes + *length, 1, room - *length, in);
-        if (got == 0)
-            break;
-        *length += got;
-        if (*length == room) {
-            room *= 2;
-            bytes = realloc(bytes, room);
-            if (bytes == NULL)
-                stop("roundtrip", "no memory");
-        }
-    }
-    if (ferror(in))
-        stop(name, "cannot be read");
-    fclose(in);
-    return bytes;
-}
 
 /* The most counters that a transform needs at the depth. */
 static size_t most_counters(uint32_t depth)
@@ -115,44 +47,47 @@ static void print_ranges(const int32_t *c1, const int32_t *c2, const int32_t *c3
     print_range(3, c3, samples);
 }
 
-/* Stops unless the planes hold the raster of the file. */
-static void compare(const char *name, const uint8_t *raster, const int32_t *c1, const int32_t *c2, const int32_t *c3,
-                    size_t samples)
+/* A plane to bytes, one for each number or two, and back. */
+static void to_bytes(uint8_t *bytes, size_t size, const int32_t *plane, size_t samples)
+{
+    size_t i;
+
+    for (i = 0; i < samples; i++) {
+        bytes[size * i] = (uint8_t)(plane[i] % 256);
+        if (size == 2)
+            bytes[2 * i + 1] = (uint8_t)(plane[i] / 256);
+    }
+}
+
+static void from_bytes(int32_t *plane, size_t size, const uint8_t *bytes, size_t samples)
 {
     size_t i;
 
     for (i = 0; i < samples; i++)
-        if (c1[i] != raster[3 * i] || c2[i] != raster[3 * i + 1] || c3[i] != raster[3 * i + 2])
-            stop(name, "the picture did not come back");
-    printf("all %lu samples came back\n", (unsigned long)(3 * samples));
+        plane[i] = bytes[size * i] + (size == 2 ? 256 * bytes[2 * i + 1] : 0);
 }
 
 /* Transforms the picture in the wrapped form and brings it back from bytes: every number needs only the bits of a sample,
-   which are at most 8 in the file. */
+   so one byte up to depth 8, else two. */
 static void through_bytes(const rulantip_pixmap *picture, uint32_t transform, const uint8_t *choices,
                           int32_t *c1, int32_t *c2, int32_t *c3, size_t samples)
 {
     uint32_t width = picture->width, height = picture->height, depth = picture->depth, refusal;
-    uint8_t *bytes = memory(3 * samples, 1);
-    size_t i;
+    size_t size = depth <= 8 ? 1 : 2, i;
+    uint8_t *bytes = memory(3 * samples, size);
+    int32_t *planes[3] = {c1, c2, c3};
 
     refusal = rulantip_forward_wrapped(width, height, depth, depth, depth, transform, choices, places[transform],
                                        c1, samples, c2, samples, c3, samples);
     if (refusal != 0)
         stop_refused("forward, wrapped", refusal);
-    printf("wrapped, in %lu bytes\n", (unsigned long)(3 * samples));
+    printf("wrapped, in %lu bytes\n", (unsigned long)(3 * samples * size));
     print_ranges(c1, c2, c3, samples);
-    for (i = 0; i < samples; i++) {
-        bytes[i] = (uint8_t)c1[i];
-        bytes[samples + i] = (uint8_t)c2[i];
-        bytes[2 * samples + i] = (uint8_t)c3[i];
-    }
+    for (i = 0; i < 3; i++)
+        to_bytes(bytes + i * size * samples, size, planes[i], samples);
 
-    for (i = 0; i < samples; i++) {
-        c1[i] = bytes[i];
-        c2[i] = bytes[samples + i];
-        c3[i] = bytes[2 * samples + i];
-    }
+    for (i = 0; i < 3; i++)
+        from_bytes(planes[i], size, bytes + i * size * samples, samples);
     refusal = rulantip_inverse_wrapped(width, height, depth, depth, depth, transform, choices, places[transform],
                                        c1, samples, c2, samples, c3, samples);
     if (refusal != 0)
@@ -189,7 +124,6 @@ int main(int argc, char **argv)
 {
     size_t length, samples, counters, i;
     uint8_t *file;
-    const uint8_t *raster;
     int32_t *c1, *c2, *c3, *t1, *t2, *t3;
     uint32_t *counter;
     uint8_t choices[4][4];
@@ -206,7 +140,6 @@ int main(int argc, char **argv)
     printf("width %u height %u depth %u\n", (unsigned)picture.width, (unsigned)picture.height, (unsigned)depth);
 
     samples = (size_t)picture.width * picture.height;
-    raster = file + (length - 3 * samples);
     c1 = memory(samples, sizeof *c1);
     c2 = memory(samples, sizeof *c2);
     c3 = memory(samples, sizeof *c3);
@@ -250,13 +183,13 @@ int main(int argc, char **argv)
                                c1, samples, c2, samples, c3, samples);
     if (refusal != 0)
         stop_refused("inverse", refusal);
-    compare(argv[1], raster, c1, c2, c3, samples);
+    compare(argv[1], file, length, c1, c2, c3, samples);
 
     through_bytes(&picture, best, choices[best], c1, c2, c3, samples);
-    compare(argv[1], raster, c1, c2, c3, samples);
+    compare(argv[1], file, length, c1, c2, c3, samples);
 
     in_bands(&picture, best, choices[best], c1, c2, c3, samples);
-    compare(argv[1], raster, c1, c2, c3, samples);
+    compare(argv[1], file, length, c1, c2, c3, samples);
 
     free(file);
     free(c1);

@@ -1,5 +1,5 @@
 //! Reads a P6 file, finds the best transform and filters, transforms the picture and brings it back; then once more in the
-//! wrapped form, whose planes fit bytes, and once in bands of rows, every second of which is left as it is.
+//! wrapped form, whose planes fit the file's bytes, and once in bands of rows, every second of which is left as it is.
 
 #[path = "../../compare/src/library.rs"]
 mod library;
@@ -30,27 +30,26 @@ fn print_ranges(planes: &[Vec<i32>; 3]) {
     }
 }
 
-/// Stops unless the planes hold the raster of the file.
-fn compare(name: &str, raster: &[u8], planes: &[Vec<i32>; 3]) {
-    for (i, pixel) in raster.chunks_exact(3).enumerate() {
-        if planes.each_ref().map(|plane| plane[i]) != [pixel[0], pixel[1], pixel[2]].map(i32::from) {
-            stop(name, "the picture did not come back");
-        }
+/// Stops unless the planes hold the picture.
+fn compare(name: &str, picture: &[Vec<i32>; 3], planes: &[Vec<i32>; 3]) {
+    if planes != picture {
+        stop(name, "the picture did not come back");
     }
-    println!("all {} samples came back", raster.len());
+    println!("all {} samples came back", 3 * planes[0].len());
 }
 
 /// Transforms the picture in the wrapped form and brings it back from bytes: every number needs only the bits of a sample,
-/// which are at most 8 in the file.
+/// so one byte up to depth 8, else two.
 fn through_bytes(settings: Settings, choices: &[u8], planes: &mut [Vec<i32>; 3]) {
     forward_wrapped(settings, choices, planes.each_mut().map(Vec::as_mut_slice))
         .unwrap_or_else(|refusal| stop_refused("forward, wrapped", refusal));
-    let bytes: Vec<u8> = planes.iter().flatten().map(|&number| number as u8).collect();
+    let size = if settings.depths[0] <= 8 { 1 } else { 2 };
+    let bytes: Vec<u8> = planes.iter().flatten().flat_map(|number| number.to_le_bytes().into_iter().take(size)).collect();
     println!("wrapped, in {} bytes", bytes.len());
     print_ranges(planes);
 
-    for (number, byte) in planes.iter_mut().flatten().zip(bytes) {
-        *number = i32::from(byte);
+    for (number, bytes) in planes.iter_mut().flatten().zip(bytes.chunks_exact(size)) {
+        *number = bytes.iter().rev().fold(0, |sum, &byte| 256 * sum + i32::from(byte));
     }
     inverse_wrapped(settings, choices, planes.each_mut().map(Vec::as_mut_slice))
         .unwrap_or_else(|refusal| stop_refused("inverse, wrapped", refusal));
@@ -85,6 +84,8 @@ fn main() {
     pixmap_planes(&file, planes.each_mut().map(Vec::as_mut_slice))
         .unwrap_or_else(|refusal| stop_refused(name, refusal));
 
+    let as_read = planes.clone();
+
     // Scratch: three trial planes, and counters that are enough for every transform.
     let mut trial = [(); 3].map(|()| vec![0i32; samples]);
     let most = (0..4).filter_map(|transform| counters(depths, transform)).max();
@@ -113,11 +114,11 @@ fn main() {
 
     inverse(settings, &choices, planes.each_mut().map(Vec::as_mut_slice))
         .unwrap_or_else(|refusal| stop_refused("inverse", refusal));
-    compare(name, picture.raster, &planes);
+    compare(name, &as_read, &planes);
 
     through_bytes(settings, &choices, &mut planes);
-    compare(name, picture.raster, &planes);
+    compare(name, &as_read, &planes);
 
     in_bands(settings, &choices, &mut planes);
-    compare(name, picture.raster, &planes);
+    compare(name, &as_read, &planes);
 }

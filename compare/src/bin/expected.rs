@@ -9,7 +9,7 @@ const USAGE: &str = "\
 expected report FILE                  what the report program prints
 expected header FILE                  width, height and depth, or the refusal
 expected picture W H B SEED           the generated picture
-expected pixmap W H B SEED            the generated picture as a P6 file, depth 2 to 8
+expected pixmap W H B SEED            the generated picture as a P6 file
 expected forward W H B T FILTERS SEED the generated picture's finished planes
 expected digest W H B T FILTERS SEED  of each finished plane one number
 expected estimate W H B T FILTERS SEED    estimate and N
@@ -99,7 +99,7 @@ fn answer(words: &[&str]) -> Result<Vec<u8>, u32> {
             let planes = generated(told, seed);
             if words[0] == "pixmap" {
                 let [depth, ..] = told.depths;
-                if !(2..=8).contains(&depth) {
+                if depth < 2 {
                     usage()
                 }
                 return Ok(generator::pixmap(told.width, told.height, depth, &planes));

@@ -1,6 +1,6 @@
 //! The calls with their refusals, in the order in which they are tested.
 
-use super::{are_depths, counters, greatest, places, plane_estimate, run, undo};
+use super::{are_depths, counters, greatest, is_side, places, plane_estimate, run, undo};
 use super::{Form, Plane, Planes, RefusalNumber, TRANSFORMS};
 
 /// What every call on planes is told.
@@ -56,7 +56,7 @@ impl Settings {
 
     /// Refusals 2 and 5.
     fn test_size_and_depths(&self) -> Result<(), RefusalNumber> {
-        if !(1..=8192).contains(&self.width) || !(1..=8192).contains(&self.height) {
+        if !is_side(self.width) || !is_side(self.height) {
             return Err(2);
         }
         if !are_depths(self.depths) {

@@ -7,6 +7,8 @@
 mod calls;
 mod entropy;
 mod filter;
+mod graymap;
+mod header;
 mod pixmap;
 mod ranges;
 mod report;
@@ -19,14 +21,18 @@ mod cases;
 #[cfg(test)]
 mod depth_cases;
 #[cfg(test)]
+mod file_cases;
+#[cfg(test)]
 mod wrapped_cases;
 
 pub use calls::{estimate, forward, forward_wrapped, inverse, inverse_wrapped, search};
 pub use calls::{Answer, Call, Estimated, Found, Scratch, Settings};
 pub use entropy::{counted_indices, logarithm, med, plane_estimate, residual};
 pub use filter::{filtered_at, window};
+pub use graymap::{graymap_file, graymap_plane, FinishedPlane, Graymap};
+pub use header::sample_bytes;
 pub use pixmap::{pixmap_header, pixmap_planes, Header};
-pub use ranges::{all_depths, are_depths, counters, greatest, ranges, Interval};
+pub use ranges::{all_depths, are_depths, counters, greatest, is_side, ranges, Interval};
 pub use report::{report, NAMES};
 pub use transform::{places, run, undo, Form, TRANSFORMS};
 
@@ -34,5 +40,5 @@ pub use transform::{places, run, undo, Form, TRANSFORMS};
 pub type Plane = Vec<i64>;
 pub type Planes = [Plane; 3];
 
-/// The number that tells why a call refuses, 1 to 12, 16 or 17.
+/// The number that tells why a call refuses, 1 to 14, 16 or 17.
 pub type RefusalNumber = u32;

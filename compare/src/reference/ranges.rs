@@ -47,6 +47,11 @@ impl Sub for Interval {
     }
 }
 
+/// Whether a picture may have this width or height.
+pub fn is_side(side: u32) -> bool {
+    (1..=8192).contains(&side)
+}
+
 /// Every three depths that planes may have.
 pub fn all_depths() -> impl Iterator<Item = [u32; 3]> {
     (0..15 * 15 * 15).map(|code| [2 + code / 225, 2 + code / 15 % 15, 2 + code % 15])

@@ -1,7 +1,8 @@
 //! Lent memory that ends where memory ends, or begins where it begins: one element read or written
 //! beyond it stops the program.
 
-use crate::library::{self, Refusal, Scratch, Settings};
+use crate::graymaps;
+use crate::library::{self, FinishedPlane, Refusal, Scratch, Settings};
 use crate::random::{self, each_round, Random};
 use compare::reference;
 use std::ffi::c_void;
@@ -107,16 +108,49 @@ fn planes_at_edges() {
     });
 }
 
+/// Writes the plane to a buffer at the edge, just long enough, and reads the file from there.
+fn graymap(random: &mut Random, at_end: bool, origin: &str) {
+    let reference::Settings { width, height, depths, transform } = random::settings(random);
+    let of = random.one_of(&graymaps::planes(depths, transform));
+    if graymaps::maxval(of) > 65_535 {
+        return;
+    }
+    let reference::FinishedPlane { plane, .. } = of;
+    let numbers = graymaps::samples(random, of, width as usize * height as usize);
+    let mut samples = Edge::new(&numbers, at_end);
+    let mut file = Edge::new(&vec![0; graymaps::length(width, height, of)], at_end);
+    let of = FinishedPlane { depths, transform, plane };
+    library::write_graymap(width, height, of, samples.slice(), file.slice()).expect(origin);
+    samples.slice().fill(0);
+    library::read_graymap(of, file.slice(), samples.slice()).expect(origin);
+    assert_eq!(samples.slice(), numbers, "{origin}");
+}
+
+#[test]
+fn graymaps_at_edges() {
+    each_round("graymaps_at_edges", 600, |random, origin| {
+        let at_end = random.one_in(2);
+        graymap(random, at_end, origin);
+    });
+}
+
+/// Both calls on a P6 file and the reader of a P5 file, for every prefix of the files; only the whole is accepted.
 #[test]
 fn files_at_edges() {
-    let file = b"P6 #c\n2\t1\n#\r255 abcdef";
-    for length in 0..=file.len() {
-        for at_end in [true, false] {
+    for file in [&b"P6 #c\n2\t1\n#\r255 abcdef"[..], b"P6 #c\n2\t1\n#\r511 abcdefabcdef"] {
+        for (length, at_end) in (0..=file.len()).flat_map(|length| [(length, true), (length, false)]) {
             let mut lent = Edge::new(&file[..length], at_end);
             let mut picture = planes(&[vec![0; 2], vec![0; 2], vec![0; 2]], at_end);
             let header = library::pixmap(lent.slice()).is_ok();
             let planes = library::pixmap_planes(lent.slice(), picture.each_mut().map(Edge::slice)).is_ok();
             assert_eq!([header, planes], [length == file.len(); 2]);
         }
+    }
+    let of = FinishedPlane { depths: [8; 3], transform: 2, plane: 2 };
+    let file = b"P5 #c\n2\t1\n#\r510 \x00\x01\x01\x00";
+    for (length, at_end) in (0..=file.len()).flat_map(|length| [(length, true), (length, false)]) {
+        let mut lent = Edge::new(&file[..length], at_end);
+        let mut plane = Edge::new(&[0; 2], at_end);
+        assert_eq!(library::read_graymap(of, lent.slice(), plane.slice()).is_ok(), length == file.len());
     }
 }

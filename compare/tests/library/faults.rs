@@ -1,12 +1,19 @@
 //! Everything that the calls on planes refuse.
 
+use crate::random::Random;
 use crate::same::Case;
 use compare::reference::{counters, greatest, places, Settings};
+use std::fmt::Display;
 
-/// A fault and the refusal that it causes.
-pub struct Fault {
+/// Widths and heights that are refused, depths, and transforms.
+pub const SIDES: [u32; 5] = [0, 8193, 65_536, 1 << 31, u32::MAX];
+const DEPTHS: [u32; 8] = [0, 1, 17, 31, 32, 34, 256 + 8, u32::MAX];
+const TRANSFORMS: [u32; 5] = [4, 5, 256, 1 << 16, u32::MAX];
+
+/// A fault in a case and the refusal that it causes.
+pub struct Fault<C> {
     pub number: u32,
-    pub make: Box<dyn Fn(&mut Case)>,
+    pub make: Box<dyn Fn(&mut C)>,
 }
 
 /// A call on planes.
@@ -57,27 +64,67 @@ impl Call {
 }
 
 /// Faults, in the order of the tests.
-#[derive(Default)]
-struct Faults(Vec<Fault>);
+pub struct Faults<C>(pub Vec<Fault<C>>);
 
-impl Faults {
-    fn add(&mut self, number: u32, make: impl Fn(&mut Case) + 'static) {
+impl<C: 'static> Faults<C> {
+    pub fn add(&mut self, number: u32, make: impl Fn(&mut C) + 'static) {
         self.0.push(Fault { number, make: Box::new(make) });
     }
 
+    /// 5.
+    pub fn add_depths(&mut self, depths: impl Fn(&mut C) -> &mut [u32; 3] + Copy + 'static) {
+        for depth in DEPTHS {
+            self.add(5, move |case| *depths(case) = [depth; 3]);
+            for plane in 0..3 {
+                self.add(5, move |case| depths(case)[plane] = depth);
+            }
+        }
+    }
+
+    /// 6.
+    pub fn add_transforms(&mut self, transform: impl Fn(&mut C) -> &mut u32 + Copy + 'static) {
+        for refused in TRANSFORMS {
+            self.add(6, move |case| *transform(case) = refused);
+        }
+    }
+}
+
+impl<C> Faults<C> {
+    /// Makes one to four of the faults in the case.
+    pub fn make_some(&self, random: &mut Random, case: &mut C) {
+        for _ in 0..1 + random.below(4) {
+            (self.0[random.below(self.0.len())].make)(case);
+        }
+    }
+}
+
+impl<C: Clone + Display> Faults<C> {
+    /// Each fault alone, and with each later one of another number: the first in the order of the tests is answered.
+    pub fn one_and_two(&self, case: &C, answer: impl Fn(&C) -> u32) {
+        for (i, first) in self.0.iter().enumerate() {
+            let mut one = case.clone();
+            (first.make)(&mut one);
+            assert_eq!(answer(&one), first.number, "{one}");
+            for second in self.0[i + 1..].iter().filter(|second| second.number != first.number) {
+                // The earlier fault last: it may make what the later one changes pointless.
+                let mut two = case.clone();
+                (second.make)(&mut two);
+                (first.make)(&mut two);
+                assert_eq!(answer(&two), first.number, "{two}");
+            }
+        }
+    }
+}
+
+impl Faults<Case> {
     /// 2, 5, 16 where the call is of a wrapped form, and 6.
     fn add_settings(&mut self, call: Call, depth: u32) {
-        for side in [0, 8193, 65_536, 1 << 31, u32::MAX] {
+        for side in SIDES {
             self.add(2, move |case| case.settings.width = side);
             self.add(2, move |case| case.settings.height = side);
         }
         self.add(2, |case| (case.settings.width, case.settings.height) = (65_536, 65_536));
-        for depth in [0, 1, 17, 31, 32, 34, 256 + 8, u32::MAX] {
-            self.add(5, move |case| case.settings.depths = [depth; 3]);
-            for plane in 0..3 {
-                self.add(5, move |case| case.settings.depths[plane] = depth);
-            }
-        }
+        self.add_depths(|case| &mut case.settings.depths);
         if call.is_wrapped() {
             for other in [2, 3, 9, 15, 16].into_iter().filter(|&other| other != depth) {
                 for plane in 0..3 {
@@ -86,9 +133,7 @@ impl Faults {
             }
             self.add(16, |case| case.settings.depths = [4, 6, 11]);
         }
-        for transform in [4, 5, 256, 1 << 16, u32::MAX] {
-            self.add(6, move |case| case.settings.transform = transform);
-        }
+        self.add_transforms(|case| &mut case.settings.transform);
     }
 
     /// 17, and 7 for as many choices as other bands need, and for one, a whole set or many too few or too many.
@@ -160,9 +205,9 @@ impl Faults {
 }
 
 /// All faults that the call tests for, in the order of the tests.
-pub fn faults(call: Call, case: &Case) -> Vec<Fault> {
+pub fn faults(call: Call, case: &Case) -> Faults<Case> {
     let Settings { depths, transform, .. } = case.settings;
-    let mut faults = Faults::default();
+    let mut faults = Faults(Vec::new());
     faults.add_settings(call, depths[0]);
     if let Some(rows) = case.band_height {
         faults.add_bands(case, rows);
@@ -172,5 +217,5 @@ pub fn faults(call: Call, case: &Case) -> Vec<Fault> {
         faults.add_scratch(call, case.samples(), counters(depths, transform));
     }
     faults.add_samples(call, depths);
-    faults.0
+    faults
 }

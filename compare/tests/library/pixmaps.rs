@@ -1,46 +1,56 @@
 //! The pixmap reader on files of every kind.
 
+use crate::files::pixmap;
+use crate::headers::{any_header, each_damage, edited, header, SIDES};
 use crate::random::{each_round, Random};
-use crate::same::pixmap;
 
-const WHITE_SPACE: &[u8] = b" \t\n\x0b\x0c\r";
+/// Maxvals of every kind, also those that would be right if they wrapped.
+const MAXVALS: [&str; 31] = [
+    "0",
+    "1",
+    "2",
+    "3",
+    "4",
+    "7",
+    "8",
+    "15",
+    "31",
+    "63",
+    "64",
+    "127",
+    "254",
+    "255",
+    "256",
+    "510",
+    "511",
+    "512",
+    "1023",
+    "4095",
+    "32767",
+    "65534",
+    "65535",
+    "65536",
+    "65791",
+    "131071",
+    "4294967299",
+    "4294967551",
+    "18446744073709551619",
+    "18446744073709551871",
+    "999999999999999999999999999999",
+];
 
-/// White space and comments as the header allows them before a number.
-fn stretch(random: &mut Random, out: &mut Vec<u8>) {
-    out.push(random.one_of(WHITE_SPACE));
-    for _ in 0..random.one_of(&[0, 0, 0, 1, 2, 4]) {
-        if random.one_in(2) {
-            out.push(random.one_of(WHITE_SPACE));
-        } else {
-            out.push(b'#');
-            for _ in 0..random.below(6) {
-                out.push(random.one_of(b"# 1\t6P\x00\xffa"));
-            }
-            out.push(random.one_of(b"\n\r"));
-        }
-    }
-}
-
-/// A header with the numbers given as text.
-fn header(random: &mut Random, numbers: [&str; 3]) -> Vec<u8> {
-    let mut file = b"P6".to_vec();
-    for number in numbers {
-        stretch(random, &mut file);
-        for _ in 0..random.one_of(&[0, 0, 0, 1, 3, 30]) {
-            file.push(b'0');
-        }
-        file.extend(number.bytes());
-    }
-    file.push(random.one_of(WHITE_SPACE));
+/// A valid file of this depth.
+fn valid_at(random: &mut Random, depth: u32, width: usize, height: usize) -> Vec<u8> {
+    let mut file = header(random, "P6", [&width, &height, &((1 << depth) - 1)]);
+    let bytes = if depth <= 8 { 3 } else { 6 };
+    file.extend((0..bytes * width * height).map(|_| random.number() as u8));
     file
 }
 
-/// A valid file.
+/// A valid file of any depth.
 fn valid(random: &mut Random, width: usize, height: usize) -> Vec<u8> {
-    let maxval = random.one_of(&["3", "7", "15", "31", "63", "127", "255"]);
-    let mut file = header(random, [&width.to_string(), &height.to_string(), maxval]);
-    file.extend((0..3 * width * height).map(|_| random.number() as u8));
-    file
+    let depth = random.between(2, 16) as u32;
+    valid_at(random, depth, width, height)
 }
 
 #[test]
@@ -65,6 +75,30 @@ fn larger_files() {
     });
 }
 
+/// At every depth the raster with its own length and with others, and maxvals beside the depth's.
+#[test]
+fn every_depth() {
+    each_round("every_depth", 20, |random, origin| {
+        for depth in 2..=16 {
+            let (width, height) = (1 + random.below(4), 1 + random.below(4));
+            let file = valid_at(random, depth, width, height);
+            let answer = pixmap(&file, b"", [0; 3], origin);
+            assert_eq!((answer.refusal, answer.depth), (0, depth));
+            let raster = if depth <= 8 { 3 } else { 6 } * width * height;
+            for length in [0, raster / 2, raster - 1, raster + 1, 2 * raster] {
+                let mut other = file[..file.len() - raster].to_vec();
+                other.resize(other.len() + length, 9);
+                assert_eq!(pixmap(&other, b"", [0; 3], origin).refusal, 4);
+            }
+            for maxval in [(1 << depth) - 2, 1 << depth] {
+                let mut other = header(random, "P6", [&width, &height, &maxval]);
+                other.resize(other.len() + raster, 9);
+                assert_eq!(pixmap(&other, b"", [0; 3], origin).refusal, 3);
+            }
+        }
+    });
+}
+
 /// Every prefix of a valid file, with the rest of the file right behind it in memory.
 #[test]
 fn truncated_files() {
@@ -80,24 +114,23 @@ fn truncated_files() {
     });
 }
 
-/// Every byte of a valid header replaced, removed and doubled.
+/// Every byte of a valid file replaced, removed and doubled.
 #[test]
 fn damaged_files() {
     each_round("damaged_files", 12, |random, origin| {
         let file = valid(random, 2, 1);
-        for at in 0..file.len() {
-            for byte in 0..=255 {
-                let mut damaged = file.clone();
-                damaged[at] = byte;
-                pixmap(&damaged, b"", [0; 3], origin);
-            }
-            let mut removed = file.clone();
-            let byte = removed.remove(at);
-            pixmap(&removed, b"", [0; 3], origin);
-            let mut doubled = file.clone();
-            doubled.insert(at, byte);
-            pixmap(&doubled, b"", [0; 3], origin);
-        }
+        each_damage(&file, |damaged| {
+            pixmap(damaged, b"", [0; 3], origin);
+        });
+    });
+}
+
+#[test]
+fn edited_files() {
+    each_round("edited_files", 8000, |random, origin| {
+        let (width, height) = (1 + random.below(3), 1 + random.below(3));
+        let file = valid(random, width, height);
+        pixmap(&edited(random, &file), b"", [0; 3], origin);
     });
 }
 
@@ -105,11 +138,8 @@ fn damaged_files() {
 #[test]
 fn random_headers() {
     each_round("random_headers", 40_000, |random, origin| {
-        let beginning: &[u8] = random.one_of(&[&b"P6"[..], b"P6 ", b"P6\n1 1", b"P6 2 1 3", b"P6 #", b"P6 1 1 ", b""]);
-        let mut file = beginning.to_vec();
-        for _ in 0..random.below(24) {
-            file.push(random.one_of(b"P61123570#  \n\r\t\x0b\x0c\x00\x08\x0e\x85\xa0-+."));
-        }
+        let beginning = random.one_of(&["P6", "P6 ", "P6\n1 1", "P6 2 1 3", "P6 #", "P6 1 1 ", "P6 1 1 511", ""]);
+        let file = any_header(random, beginning);
         pixmap(&file, b" 1 1 3 abc", [0; 3], origin);
     });
 }
@@ -125,55 +155,11 @@ fn random_bytes() {
 /// Numbers at the limits, and those that would be right if they wrapped.
 #[test]
 fn numbers() {
-    const SIDES: [&str; 16] = [
-        "0",
-        "1",
-        "2",
-        "8191",
-        "8192",
-        "8193",
-        "10000",
-        "65537",
-        "65538",
-        "4294967297",
-        "4294967298",
-        "18446744073709551617",
-        "18446744073709551618",
-        "340282366920938463463374607431768211457",
-        "999999999999999999999999999999",
-        "100000000000000000000000000001",
-    ];
-    const MAXVALS: [&str; 24] = [
-        "0",
-        "1",
-        "2",
-        "3",
-        "4",
-        "7",
-        "8",
-        "15",
-        "31",
-        "63",
-        "64",
-        "127",
-        "254",
-        "255",
-        "256",
-        "511",
-        "1023",
-        "65535",
-        "65791",
-        "4294967299",
-        "4294967551",
-        "18446744073709551619",
-        "18446744073709551871",
-        "999999999999999999999999999999",
-    ];
     each_round("numbers", 2, |random, origin| {
         for width in SIDES {
             for height in SIDES {
                 for maxval in MAXVALS {
-                    let mut file = header(random, [width, height, maxval]);
+                    let mut file = header(random, "P6", [&width, &height, &maxval]);
                     file.extend(vec![7; 3 * random.one_of(&[0, 1, 1, 1, 2, 4])]);
                     pixmap(&file, b"", [0; 3], origin);
                 }
@@ -195,6 +181,9 @@ fn order_of_refusals() {
             assert_eq!(answer("P6 1 1 3 ab", longer), 4);
             assert_eq!(answer("P6 1 1 3 abcd", longer), 4);
             assert_eq!(answer("P6 1 1 3 abc", longer), 0);
+            assert_eq!(answer("P6 1 1 511 abc", longer), 4);
+            assert_eq!(answer("P6 1 1 511 abcdef", longer), 0);
+            assert_eq!(answer("P6 1 1 65536 abcdef", longer), 3);
         }
     });
 }

@@ -34,19 +34,7 @@ fn one_fault_and_two() {
         for (call, banded) in CALLS {
             for transform in 0..TRANSFORMS {
                 let case = sound(random, (call, banded), transform, origin);
-                let faults = faults(call, &case);
-                for (i, first) in faults.iter().enumerate() {
-                    let mut one = case.clone();
-                    (first.make)(&mut one);
-                    assert_eq!(call.answer(&one), first.number, "{one}");
-                    for second in faults[i + 1..].iter().filter(|second| second.number != first.number) {
-                        // The earlier fault last: it may make what the later one changes pointless.
-                        let mut two = case.clone();
-                        (second.make)(&mut two);
-                        (first.make)(&mut two);
-                        assert_eq!(call.answer(&two), first.number, "{two}");
-                    }
-                }
+                faults(call, &case).one_and_two(&case, |case| call.answer(case));
             }
         }
     });
@@ -59,10 +47,7 @@ fn several_faults() {
         let (call, banded) = random.one_of(&CALLS);
         let transform = random.below(TRANSFORMS as usize) as u32;
         let mut case = sound(random, (call, banded), transform, origin);
-        let faults = faults(call, &case);
-        for _ in 0..1 + random.below(4) {
-            (random.one_of(&faults.iter().collect::<Vec<_>>()).make)(&mut case);
-        }
+        faults(call, &case).make_some(random, &mut case);
         call.answer(&case);
     });
 }
@@ -153,10 +138,25 @@ fn null_pointers() {
             answer.refusal
         };
         assert_eq!([search(0, 0), search(4, 0), search(4, 1)], [7, 8, 9]);
-        assert_eq!(c::rulantip_p6_header(null_mut(), 0).refusal, 1);
-        assert_eq!(c::rulantip_p6_planes(null_mut(), 0, none32, 0, none32, 0, none32, 0), 1);
-        let file = b"P6 1 1 3 abc";
-        assert_eq!(c::rulantip_p6_planes(file.as_ptr(), file.len(), none32, 0, none32, 0, none32, 0), 8);
     }
     assert_eq!((found, trial), ([7; 4], [[1]; 3]));
+}
+
+/// The same of the calls on files.
+#[test]
+fn null_pointers_and_files() {
+    let none = null_mut::<i32>();
+    let plane = [0i32; 1];
+    // SAFETY: every pointer points to as many elements as said, and no two overlap.
+    unsafe {
+        assert_eq!(c::rulantip_p6_header(null_mut(), 0).refusal, 1);
+        assert_eq!(c::rulantip_p6_planes(null_mut(), 0, none, 0, none, 0, none, 0), 1);
+        let file = b"P6 1 1 3 abc";
+        assert_eq!(c::rulantip_p6_planes(file.as_ptr(), file.len(), none, 0, none, 0, none, 0), 8);
+        let write = |samples, count| c::rulantip_p5_write(1, 1, 5, 6, 5, 0, 1, samples, count, null_mut(), 0).refusal;
+        assert_eq!([write(none, 0), write(plane.as_ptr(), 1)], [8, 14]);
+        let read = |file, length| c::rulantip_p5_read(5, 6, 5, 0, 1, file, length, none, 0).refusal;
+        let file = b"P5 1 1 94 a";
+        assert_eq!([read(null_mut(), 0), read(file.as_ptr(), file.len())], [1, 8]);
+    }
 }

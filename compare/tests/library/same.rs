@@ -1,7 +1,7 @@
 //! One call of the library, held to the reference: answer, lent memory and guard words.
 
 use crate::lent::{Lent, Word};
-use crate::library::c::{self, RulantipEstimated, RulantipPixmap};
+use crate::library::c::{self, RulantipEstimated};
 use compare::reference::{self, places, Answer, Estimated, Scratch, Settings};
 use std::fmt;
 use std::ops::Range;
@@ -281,54 +281,4 @@ impl Case {
         self.compare(name, &[("counters", &counters, if success { &zero } else { counters.entry() })]);
         answer
     }
-}
-
-fn fail_file(call: &str, problem: &str, file: &[u8], origin: &str) -> ! {
-    panic!("{call}: {problem}\n{origin}\nfile, {} bytes: {}", file.len(), file[..file.len().min(300)].escape_ascii())
-}
-
-/// Both calls on a P6 file, held to the reference. The planes are lent with the lengths that the
-/// file asks for plus `longer`. The bytes of `beyond` stand right behind the file and are not part of it.
-pub fn pixmap(file: &[u8], beyond: &[u8], longer: [isize; 3], origin: &str) -> RulantipPixmap {
-    let whole = [file, beyond].concat();
-    let mut memory = Lent::new(&whole, file.len());
-    let expected = reference::pixmap_header(file);
-    let right = match expected {
-        Ok(header) => RulantipPixmap { refusal: 0, width: header.width, height: header.height, depth: header.depth },
-        Err(refusal) => RulantipPixmap { refusal, width: 0, height: 0, depth: 0 },
-    };
-    // SAFETY: the pointer points to as many elements as said.
-    let answer = unsafe { c::rulantip_p6_header(memory.pointer(), file.len()) };
-    if answer != right {
-        fail_file("rulantip_p6_header", &format!("the answer is {answer:?}, expected {right:?}"), file, origin);
-    }
-
-    let samples = right.width as usize * right.height as usize;
-    let lengths = longer.map(|more| samples.saturating_add_signed(more));
-    let planes = lengths.map(|length| (0..length).map(i32::guard).collect::<Vec<i32>>());
-    let [mut c1, mut c2, mut c3] = planes.each_ref().map(|plane| Lent::new(plane, file.len()));
-    let expected = reference::pixmap_planes(file, lengths);
-    // SAFETY: every pointer points to as many elements as said, and no two overlap.
-    #[rustfmt::skip]
-    let answer = unsafe {
-        c::rulantip_p6_planes(
-            memory.pointer(), file.len(),
-            c1.pointer(), c1.len(), c2.pointer(), c2.len(), c3.pointer(), c3.len(),
-        )
-    };
-    let (number, after) = match expected {
-        Ok(planes) => (0, planes),
-        Err(number) => (number, planes),
-    };
-    if answer != number {
-        fail_file("rulantip_p6_planes", &format!("the answer is {answer}, expected {number}"), file, origin);
-    }
-    let differs = [("c1", &c1, &after[0]), ("c2", &c2, &after[1]), ("c3", &c3, &after[2])]
-        .iter()
-        .find_map(|(name, memory, expected)| memory.differs(name, expected))
-        .or(memory.differs("file", &whole));
-    if let Some(problem) = differs {
-        fail_file("rulantip_p6_planes", &problem, file, origin);
-    }
-    right
 }

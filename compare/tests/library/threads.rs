@@ -1,7 +1,9 @@
 //! Sixteen threads at once on memory of their own get what one thread gets.
 
+use crate::files::pixmap;
+use crate::graymaps::through_files;
 use crate::random::{self, each_round};
-use crate::same::{pixmap, Case};
+use crate::same::Case;
 use crate::transforms::there_and_back;
 use crate::wrapped;
 use compare::generator;
@@ -17,7 +19,8 @@ struct Known {
     banded: Case,
     finished: [Vec<i32>; 3],
     found: (Vec<u8>, reference::Estimated),
-    file: Vec<u8>,
+    /// With one byte a sample, and with two.
+    files: [Vec<u8>; 2],
 }
 
 impl Known {
@@ -28,21 +31,22 @@ impl Known {
         let found = reference::search(case.settings, case.rounds, case.choices.len(), planes, scratch).unwrap();
         let Settings { width, height, depths, .. } = case.settings;
         let deepest = depths.into_iter().max().unwrap();
-        let file = generator::pixmap(width, height, deepest, &case.planes);
-        Known { finished, found: (found.filters, found.estimated), file, case, banded }
+        let files = [deepest, deepest + 8].map(|depth| generator::pixmap(width, height, depth, &case.planes));
+        Known { finished, found: (found.filters, found.estimated), files, case, banded }
     }
 
     /// Every call once.
     fn calls(&self) {
         let (answer, finished) = self.case.forward();
         assert_eq!((answer, &finished), (0, &self.finished));
-        let back = Case { planes: finished, ..self.case.clone() };
-        back.inverse_as(Ok(self.case.planes.clone()));
+        through_files(&self.case, &finished);
         wrapped::both_ways(&self.case.wrapped());
         there_and_back(&self.banded);
         self.case.estimate_as(Ok(self.found.clone()), true);
         self.case.estimate();
-        pixmap(&self.file, b"", [0; 3], &self.case.origin);
+        for file in &self.files {
+            pixmap(file, b"", [0; 3], &self.case.origin);
+        }
     }
 }
 

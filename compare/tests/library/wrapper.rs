@@ -1,6 +1,6 @@
 //! The safe module over the C functions gives what they give.
 
-use crate::library::{self, Estimated, Refusal, Scratch, Settings};
+use crate::library::{self, Estimated, FinishedPlane, Graymap, Refusal, Scratch, Settings};
 
 const SETTINGS: Settings = Settings { width: 2, height: 1, depths: [5, 7, 4], transform: 2 };
 const PICTURE: Planes = [[10, 20], [100, 101], [7, 9]];
@@ -138,8 +138,75 @@ fn pixmaps() {
     assert_eq!(planes_of(b"P6 2 1 255 abcdef"), Err(Refusal::Plane));
 }
 
+/// Two bytes a sample, the greater part first: 1 × 256 + 255, 2, 256 and, above maxval, 65,535.
+#[test]
+fn deep_pixmaps() {
+    let file = b"P6 1 1 511 \x01\xff\x00\x02\x01\x00";
+    let pixmap = library::pixmap(file).unwrap();
+    assert_eq!((pixmap.width, pixmap.height, pixmap.depth, pixmap.raster), (1, 1, 9, &file[11..]));
+    assert_eq!(planes_of(file), Ok([[511], [2], [256]]));
+    assert_eq!(planes_of(b"P6 1 1 511 \xff\xff\x00\x02\x01\x00"), Ok([[65_535], [2], [256]]));
+    assert_eq!(planes_of(b"P6 1 1 65535 \xff\xff\x80\x00\x00\x80"), Ok([[65_535], [32_768], [128]]));
+    assert_eq!(planes_of(b"P6 1 1 511 \x01\xff\x00\x02\x01"), Err(Refusal::Raster));
+    assert_eq!(planes_of(b"P6 1 1 512 \x01\xff\x00\x02\x01\x00"), Err(Refusal::Maxval));
+}
+
+/// Plane, numbers and file.
+type Written<'a> = (FinishedPlane, [i32; 2], &'a [u8]);
+
+/// The lowest numbers are 0, -64, -64, -255, -255 and -16,384.
+fn written() -> [Written<'static>; 6] {
+    let plane = |depths, transform, plane| FinishedPlane { depths, transform, plane };
+    [
+        (plane([8; 3], 2, 1), [10, 200], b"P5\n2 1\n255\n\x0a\xc8"),
+        (plane([2, 7, 8], 0, 2), [-64, 191], b"P5\n2 1\n255\n\x00\xff"),
+        (plane([8, 7, 3], 0, 2), [-64, 192], b"P5\n2 1\n256\n\x00\x00\x01\x00"),
+        (plane([8; 3], 2, 2), [-190, 255], b"P5\n2 1\n510\n\x00\x41\x01\xfe"),
+        (plane([8; 3], 2, 3), [140, -255], b"P5\n2 1\n510\n\x01\x8b\x00\x00"),
+        (plane([2, 15, 16], 0, 2), [49_151, -16_128], b"P5\n2 1\n65535\n\xff\xff\x01\x00"),
+    ]
+}
+
+#[test]
+fn graymaps() {
+    for (of, numbers, file) in written() {
+        let mut buffer = vec![7; library::graymap_length(2, 1)];
+        assert_eq!(library::write_graymap(2, 1, of, &numbers, &mut buffer), Ok(file.len()));
+        assert_eq!(buffer[..file.len()], *file);
+        assert!(buffer[file.len()..].iter().all(|&byte| byte == 7));
+        let mut plane = [3; 2];
+        assert_eq!(library::read_graymap(of, file, &mut plane), Ok(Graymap { width: 2, height: 1 }));
+        assert_eq!(plane, numbers);
+    }
+    assert_eq!(library::graymap_length(8192, 8192), "P5\n8192 8192\n65535\n".len() + 2 * 8192 * 8192);
+}
+
+#[test]
+fn refused_graymaps() {
+    let of = FinishedPlane { depths: [5, 6, 5], transform: 0, plane: 1 }; // -63 to 31
+    let write =
+        |width, of, numbers: &[i32], room: usize| library::write_graymap(width, 1, of, numbers, &mut [7; 99][..room]);
+    let length = "P5\n2 1\n94\n".len() + 2;
+    assert_eq!(write(2, of, &[-63, 31], length), Ok(length));
+    assert_eq!(write(0, of, &[-63, 31], length), Err(Refusal::Size));
+    assert_eq!(write(2, FinishedPlane { depths: [5, 6, 1], ..of }, &[-63, 31], length), Err(Refusal::Depth));
+    assert_eq!(write(2, FinishedPlane { plane: 0, ..of }, &[-63, 31], length), Err(Refusal::Transform));
+    assert_eq!(write(2, of, &[-63], length), Err(Refusal::Plane));
+    assert_eq!(write(2, FinishedPlane { depths: [16; 3], ..of }, &[0, 0], 99), Err(Refusal::Wide));
+    assert_eq!(write(2, of, &[-64, 31], length - 1), Err(Refusal::Buffer));
+    assert_eq!(write(2, of, &[-64, 31], length), Err(Refusal::Unreached));
+    let read = |of, file: &[u8]| library::read_graymap(of, file, &mut [0; 2]).err();
+    assert_eq!(read(FinishedPlane { plane: 4, ..of }, b""), Some(Refusal::Transform));
+    assert_eq!(read(of, b"P6 2 1 94 ab"), Some(Refusal::Header));
+    assert_eq!(read(of, b"P5 2 1 95 ab"), Some(Refusal::Maxval));
+    assert_eq!(read(of, b"P5 2 1 94 abc"), Some(Refusal::Raster));
+    assert_eq!(read(of, b"P5 1 1 94 a"), Some(Refusal::Plane));
+    assert_eq!(read(of, b"P5 2 1 94 a\x00"), Some(Refusal::Unreached));
+    assert_eq!(read(of, b"P5 2 1 94 \x5e\x00"), None);
+}
+
 #[test]
 fn refusals_by_number() {
-    assert_eq!(Refusal::ALL.map(Refusal::number), [1, 2, 3, 4, 5, 6, 7, 8, 9, 10, 11, 12, 16, 17]);
+    assert_eq!(Refusal::ALL.map(Refusal::number), [1, 2, 3, 4, 5, 6, 7, 8, 9, 10, 11, 12, 13, 14, 16, 17]);
     assert!(Refusal::ALL.iter().all(|refusal| !refusal.to_string().is_empty()));
 }

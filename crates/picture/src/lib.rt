@@ -2,8 +2,11 @@
 // and calls one over the slice.
 use pixmap::Header;
 ghost use mathlib.Core.Path.{_≡_};
+ghost use Prim.Native.Nat.{_<_};
+ghost use lib.IntN.{pos};
+ghost use lib.ListN.{length, getD};
 ghost use Rattle.stage.specs.Pixmap.{headerOf, rasterOf};
-ghost use Rattle.picture.specs.OnFile.{numbersOf, sampleOf, PictureOf};
+ghost use Rattle.picture.specs.OnFile.{numbersOf, samplesAt, sampleOf, PictureOf};
 
 pub struct Picture<'a> {
     pub width: u32,
@@ -40,14 +43,37 @@ fn header_numbers(file: &[u8]) -> Numbers
     }
 }
 
-// The sample `offset` bytes into a pixel of a raster: 0, 1 and 2 for planes 1, 2 and 3. 0 behind the raster's end.
-pub fn sample_at(raster: &[u8], offset: usize, index: usize) -> i32
-    ensures { λ r. ⌜ r ≡ sampleOf (now (raster .entry)) offset index ⌝ }
+// How many samples a raster has.
+fn sample_count(raster: &[u8], depth: u32) -> usize
+    ensures { λ r. ⌜ r ≡ length (samplesAt depth (now (raster .entry))) ⌝ }
 {
-    let n = raster.len();
+    if depth <= 8 {
+        raster.len()
+    } else {
+        raster.len() / 2
+    }
+}
+
+// Sample i of them.
+fn number_at(raster: &[u8], depth: u32, i: usize) -> i32
+    requires { ⌜ i < length (samplesAt depth (now raster)) ⌝ }
+    ensures { λ r. ⌜ r ≡ pos (getD (samplesAt depth (now (raster .entry))) i 0) ⌝ }
+{
+    if depth <= 8 {
+        raster[i] as i32
+    } else {
+        raster::pair(raster, i) as i32
+    }
+}
+
+// The sample `offset` samples into a pixel of a raster: 0, 1 and 2 for planes 1, 2 and 3. 0 behind the raster's end.
+pub fn sample_at(raster: &[u8], depth: u32, offset: usize, index: usize) -> i32
+    ensures { λ r. ⌜ r ≡ sampleOf depth (now (raster .entry)) offset index ⌝ }
+{
+    let n = sample_count(raster, depth);
     if offset < n {
         if index <= (n - 1 - offset) / 3 {
-            return raster[3 * index + offset] as i32;
+            return number_at(raster, depth, 3 * index + offset);
         }
     }
     0
@@ -73,14 +99,14 @@ pub fn raster<'a>(p: Picture<'a>) -> &'a [u8]
 }
 
 pub fn sample<'a>(p: Picture<'a>, offset: usize, index: usize) -> i32
-    ensures { λ r. ⌜ r ≡ sampleOf (now (p .entry .raster)) offset index ⌝ }
+    ensures { λ r. ⌜ r ≡ sampleOf (p .entry .depth) (now (p .entry .raster)) offset index ⌝ }
 {
-    sample_at(p.raster, offset, index)
+    sample_at(p.raster, p.depth, offset, index)
 }
 
 // The same from the file itself: whoever calls this one needs no record.
 pub fn sample_in(file: &[u8], offset: usize, index: usize) -> i32
-    ensures { λ r. ⌜ r ≡ sampleOf (rasterOf (now (file .entry))) offset index ⌝ }
+    ensures { λ r. ⌜ r ≡ sampleOf (numbersOf (headerOf (now (file .entry))) .depth) (rasterOf (now (file .entry))) offset index ⌝ }
 {
     sample(open(file), offset, index)
 }

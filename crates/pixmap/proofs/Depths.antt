@@ -1,34 +1,34 @@
 -- The depth of a maxval: the one search of the definition, as a loop sees it and as the equation that it solves.
 use mathlib.Core.Path.{_≡_, refl, sym, ap, _∙_}
 use mathlib.Core.Bool.{Bool, true, false, cond}
-use Prim.Native.Nat.{ℕ, zero, suc, _+_, _-_, _^_, _≤_, _<_, min}
+use Prim.Native.Nat.{ℕ, zero, suc, _+_, _-_, _^_, _≤_, _<_}
 use mathlib.Core.Logic.{⊎-elim}
 use native.Mathlib.Nat.{eq-or-lt-of-le}
 use native.Mathlib.Numerals.{add-one}
 use native.Mathlib.Omega.{arith}
-use lib.Dec.{leb, eqb}
+use lib.Dec.{eqb}
 use lib.Pow.{pow-pos, pow-mono, pow-lt}
-use borrow.Author.Tests.{leb-true, leb-false, eqb-true, eqb-false, eq-eqb, ne-eqb}
+use borrow.Author.Tests.{eqb-true, eqb-false, eq-eqb, ne-eqb}
 use Rattle.stage.specs.Pixmap.{depthAmong, depthOf}
 
--- ---- the loop that tries the depths from b to 8
-module _ (b m : ℕ) (h : b ≤ 8) where
-  step : depthAmong (9 - b) b m ≡ cond (eqb m (2 ^ b - 1)) b (depthAmong (9 - (b + 1)) (b + 1) m)
+-- ---- the loop that tries the depths from b to 16
+module _ (b m : ℕ) (h : b ≤ 16) where
+  step : depthAmong (17 - b) b m ≡ cond (eqb m (2 ^ b - 1)) b (depthAmong (17 - (b + 1)) (b + 1) m)
   unfolding depthAmong
   step =
-      let e : 9 - b ≡ suc (8 - b) = omega arith in
-      let f : 9 - (b + 1) ≡ 8 - b = omega arith in
+      let e : 17 - b ≡ suc (16 - b) = omega arith in
+      let f : 17 - (b + 1) ≡ 16 - b = omega arith in
       rw (e, f, add-one)
 
-  pub depth-found : m ≡ 2 ^ b - 1 → b ≡ depthAmong (9 - b) b m
-  depth-found e = sym (step ∙ ap (λ (t : Bool). cond t b (depthAmong (9 - (b + 1)) (b + 1) m)) (eq-eqb m (2 ^ b - 1) e))
+  pub depth-found : m ≡ 2 ^ b - 1 → b ≡ depthAmong (17 - b) b m
+  depth-found e = sym (step ∙ ap (λ (t : Bool). cond t b (depthAmong (17 - (b + 1)) (b + 1) m)) (eq-eqb m (2 ^ b - 1) e))
 
-  pub depth-next : (m ≡ 2 ^ b - 1 → ⊥) → depthAmong (9 - (b + 1)) (b + 1) m ≡ depthAmong (9 - b) b m
-  depth-next e = sym (step ∙ ap (λ (t : Bool). cond t b (depthAmong (9 - (b + 1)) (b + 1) m)) (ne-eqb m (2 ^ b - 1) e))
+  pub depth-next : (m ≡ 2 ^ b - 1 → ⊥) → depthAmong (17 - (b + 1)) (b + 1) m ≡ depthAmong (17 - b) b m
+  depth-next e = sym (step ∙ ap (λ (t : Bool). cond t b (depthAmong (17 - (b + 1)) (b + 1) m)) (ne-eqb m (2 ^ b - 1) e))
 
-pub depth-none : (b m : ℕ) → 9 ≤ b → 0 ≡ depthAmong (9 - b) b m
+pub depth-none : (b m : ℕ) → 17 ≤ b → 0 ≡ depthAmong (17 - b) b m
 unfolding depthAmong
-depth-none b m h = let e : 9 - b ≡ 0 = omega arith in rw e
+depth-none b m h = let e : 17 - b ≡ 0 = omega arith in rw e
 
 -- ---- what the search finds
 record Found (low n m d : ℕ) : Type 0 where
@@ -45,8 +45,8 @@ unfolding depthAmong
 found zero low m d h z = absurd (z (sym h))
 found (suc n) low m d h z = found-by n low m d (eqb m (2 ^ low - 1)) refl (λ e. found n (suc low) m d e z) h
 
-pub depth-means : (m d : ℕ) → depthOf m ≡ d → (d ≡ 0 → ⊥) → ((2 ≤ d) × (d ≤ 8)) × (m ≡ 2 ^ d - 1)
-depth-means m d h z = let k = found 7 2 m d h z in ((k .from, omega arith), k .is)
+pub depth-means : (m d : ℕ) → depthOf m ≡ d → (d ≡ 0 → ⊥) → ((2 ≤ d) × (d ≤ 16)) × (m ≡ 2 ^ d - 1)
+depth-means m d h z = let k = found 15 2 m d h z in ((k .from, omega arith), k .is)
 
 -- ---- and that it finds every such depth
 higher : (low d : ℕ) → low < d → 2 ^ low - 1 ≡ 2 ^ d - 1 → ⊥
@@ -63,21 +63,9 @@ unfolding depthAmong
 finds zero low m d h l u = absurd (omega arith)
 finds (suc n) low m d h l u = finds-by n low m d (eqb m (2 ^ low - 1)) refl h l (λ k. finds n (suc low) m d h k (omega arith))
 
-pub means-depth : (m d : ℕ) → m ≡ 2 ^ d - 1 → 2 ≤ d → d ≤ 8 → depthOf m ≡ d
-means-depth m d h l u = finds 7 2 m d h l (omega arith)
+pub means-depth : (m d : ℕ) → m ≡ 2 ^ d - 1 → 2 ≤ d → d ≤ 16 → depthOf m ≡ d
+means-depth m d h l u = finds 15 2 m d h l (omega arith)
 
--- a maxval kept to 100,000 has the same depth
-none-by : (m : ℕ) (t : Bool) → eqb (depthOf m) 0 ≡ t → 256 ≤ m → depthOf m ≡ 0
-none-by m true e h = eqb-true (depthOf m) 0 e
-none-by m false e h =
-    let k = depth-means m (depthOf m) refl (eqb-false (depthOf m) 0 e) in
-    absurd (omega (arith, pow-mono (k .0 .1), k .1))
-
-kept-by : (m : ℕ) (t : Bool) → leb m 100000 ≡ t → depthOf (min m 100000) ≡ depthOf m
-kept-by m true h = ap depthOf (omega (arith, leb-true m 100000 h))
-kept-by m false h =
-    let l = leb-false m 100000 h in
-    none-by (min m 100000) (eqb (depthOf (min m 100000)) 0) refl (omega arith) ∙ sym (none-by m (eqb (depthOf m) 0) refl (omega arith))
-
-pub depth-kept : (m : ℕ) → depthOf (min m 100000) ≡ depthOf m
-depth-kept m = kept-by m (leb m 100000) refl
+-- a maxval that has a depth is M of that depth, and below 65,536
+pub depth-maxval : (m : ℕ) → (depthOf m ≡ 0 → ⊥) → (2 ^ depthOf m - 1 ≡ m) × (m ≤ 65535)
+depth-maxval m z = let k = depth-means m (depthOf m) refl z in (sym (k .1), omega (arith, pow-mono (k .0 .1), k .1))

@@ -1,5 +1,6 @@
 pub mod HeaderFields
 pub mod Depths
+pub mod Maxvals
 pub mod Refusals
 pub mod Rasters
 pub mod Parsing

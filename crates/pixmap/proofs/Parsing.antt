@@ -1,57 +1,71 @@
--- From the text of a header to the answer, the raster and the planes.
+-- From the text of a header to the answer and the raster.
 use mathlib.Core.Path.{_≡_, sym, ap, _∙_}
-use mathlib.Core.Bool.{Bool, cond, not}
+use mathlib.Core.Bool.{Bool}
 use mathlib.Core.List.{List, []}
-use Prim.Native.Nat.{ℕ, min}
-use lib.Dec.{eqb}
+use Prim.Native.Nat.{ℕ, _*_}
+use native.Mathlib.Omega.{arith}
 use lib.ListN.{length, drop}
 use borrow.Author.Tests.{eq-eqb, ne-eqb}
-use Rattle.stage.specs.Answers.{Reply, done, refused, refusal}
-use Rattle.stage.specs.Pixmap.{HeaderText, headerText, depthOf, headerTests, pixmapTests, Header, textHeader, headerOf, rasterBy, rasterOf}
+use Rattle.stage.specs.declared.Kind.{Kind}
+use Rattle.stage.specs.declared.Kind.the-variants.{Pixmap}
+use Rattle.stage.specs.Answers.{done, refused, refusal}
+use Rattle.stage.specs.Raster.{sampleBytes}
+use Rattle.stage.specs.Pixmap.{HeaderText, headerText, letter, pixelSamples, takes, headerTests, fileTests, fileOf, textHeader, headerBy, headerOf, rasterBy, rasterOf}
 use Rattle.pixmap.specs.declared.header_text.Fields.{Fields}
 use Rattle.pixmap.specs.declared.Parsed.{Parsed}
 use Rattle.pixmap.specs.HeaderFields.{FieldsOf}
-use Rattle.pixmap.specs.Parsed.{parsedHeader, ParsedOf}
-use Rattle.pixmap.proofs.Depths.{depth-kept}
-use Rattle.pixmap.proofs.Refusals.{reply-kept, same-number, same-value}
+use Rattle.pixmap.specs.Parsed.{Readable, ParsedOf}
+use Rattle.pixmap.proofs.Maxvals.{taken-most, takes-kept, bytes-kept}
+use Rattle.pixmap.proofs.Refusals.{is-sized, is-taken, sized-kept, refusal-kept}
 
-module _ (file rest : List ℕ) (t : Fields) (d n : ℕ) where
+module _ (k : Kind) (file rest : List ℕ) (t : Fields) (taken : Bool) (pixel n : ℕ) where
   abbrev T : HeaderText
-  T = headerText 54 file
+  T = headerText (letter k) file
 
-  pub parsed-read : FieldsOf 54 file t → d ≡ depthOf (t .maxval) → rest ≡ drop 1 (drop (t .at) file) → n ≡ refusal (headerTests (t .formed) (t .width) (t .height) (not (eqb d 0)) 3 (length rest))
-      → ParsedOf file (record { refusal = n; width = t .width; height = t .height; depth = d; at = t .at })
-  unfolding headerOf
-  parsed-read a e r h =
-      let d-is : d ≡ depthOf (T .maxval) = e ∙ ap depthOf (a .maxval-is) ∙ depth-kept (T .maxval) in
+  pub parsed-read : Readable k → FieldsOf (letter k) file t → taken ≡ takes k (t .maxval) → pixel ≡ pixelSamples k * sampleBytes (t .maxval) → rest ≡ drop 1 (drop (t .at) file)
+      → n ≡ refusal (headerTests (t .formed) (t .width) (t .height) taken pixel (length rest))
+      → ParsedOf k file (record { refusal = n; width = t .width; height = t .height; maxval = t .maxval; at = t .at })
+  parsed-read readable a g p r h =
+      let g-is : taken ≡ takes k (T .maxval) = g ∙ ap (takes k) (a .maxval-is) ∙ takes-kept k (T .maxval) readable in
+      let p-is : pixel ≡ pixelSamples k * sampleBytes (T .maxval) = p ∙ ap (λ (m : ℕ). pixelSamples k * sampleBytes m) (a .maxval-is) ∙ ap (λ (m : ℕ). pixelSamples k * m) (bytes-kept (T .maxval)) in
       let l-is : rest ≡ T .rest = r ∙ a .rest-is in
-      let n-is : n ≡ refusal (headerTests (T .formed) (min (T .width) 100000) (min (T .height) 100000) (not (eqb (depthOf (T .maxval)) 0)) 3 (length (T .rest))) = cc in
-      let v-is : _≡_ {A = Header} (record { width = t .width; height = t .height; depth = d }) (record { width = min (T .width) 100000; height = min (T .height) 100000; depth = depthOf (T .maxval) }) = cc in
+      let n-is : n ≡ refusal (fileTests k T) =
+      h ∙ rw (a .formed-is, a .width-is, a .height-is, g-is, p-is, l-is) (refusal-kept (T .formed) (takes k (T .maxval)) (pixelSamples k * sampleBytes (T .maxval)) (length (T .rest)) (T .width) (T .height)) in
       record {
-        reply-is = rw (n-is, v-is) (reply-kept (T .formed) (not (eqb (depthOf (T .maxval)) 0)) (depthOf (T .maxval)) 3 (length (T .rest)) (T .width) (T .height));
+        refusal-is = n-is;
+        width-is = λ z. a .width-is ∙ sized-kept (T .width) (T .height) (is-sized k T (sym n-is ∙ z)) .0;
+        height-is = λ z. a .height-is ∙ sized-kept (T .width) (T .height) (is-sized k T (sym n-is ∙ z)) .1;
+        maxval-is = λ z. omega (arith, a .maxval-is, taken-most k (T .maxval) readable (is-taken k T (sym n-is ∙ z)));
         rest-is = a .rest-is;
       }
 
--- ---- a file that is refused, and one that does not
-module _ (file : List ℕ) (r : Parsed) (s : ParsedOf file r) where
-  pub parsed-refused : (r .refusal ≡ 0 → ⊥) → refused (r .refusal) ≡ headerOf file
-  parsed-refused h = ap (λ (b : Bool). cond b (done (parsedHeader r)) (refused (r .refusal))) (sym (ne-eqb (r .refusal) 0 h)) ∙ s .reply-is
+-- ---- a file that is refused, and one that is not
+module _ {k : Kind} {file : List ℕ} {r : Parsed} (s : ParsedOf k file r) where
+  pub parsed-refused : (r .refusal ≡ 0 → ⊥) → refused (r .refusal) ≡ fileOf k file
+  unfolding fileOf
+  parsed-refused h = rw (← (s .refusal-is), ne-eqb (r .refusal) 0 h)
 
-  pub parsed-done : r .refusal ≡ 0 → done (parsedHeader r) ≡ headerOf file
-  parsed-done h = ap (λ (b : Bool). cond b (done (parsedHeader r)) (refused (r .refusal))) (sym (eq-eqb (r .refusal) 0 h)) ∙ s .reply-is
+  pub parsed-done : r .refusal ≡ 0 → done (headerText (letter k) file) ≡ fileOf k file
+  unfolding fileOf
+  parsed-done h = rw (← (s .refusal-is), eq-eqb (r .refusal) 0 h)
+
+  pub passes : r .refusal ≡ 0 → refusal (fileTests k (headerText (letter k) file)) ≡ 0
+  passes h = sym (s .refusal-is) ∙ h
+
+-- ---- of a pixmap
+module _ {file : List ℕ} {r : Parsed} (s : ParsedOf Pixmap file r) where
+  pub header-refused : (r .refusal ≡ 0 → ⊥) → refused (r .refusal) ≡ headerOf file
+  unfolding headerOf
+  header-refused h = ap headerBy (parsed-refused s h)
+
+  pub header-done : r .refusal ≡ 0 → done (textHeader (headerText 54 file)) ≡ headerOf file
+  unfolding headerOf
+  header-done h = ap headerBy (parsed-done s h)
 
   pub raster-none : (r .refusal ≡ 0 → ⊥) → [] ≡ rasterOf file
   unfolding rasterOf
-  raster-none h = ap (λ (a : Reply Header). rasterBy a (headerText 54 file .rest)) (parsed-refused h)
+  raster-none h = ap rasterBy (parsed-refused s h)
 
   pub raster-read : r .refusal ≡ 0 → drop 1 (drop (r .at) file) ≡ rasterOf file
   unfolding rasterOf
-  raster-read h = s .rest-is ∙ ap (λ (a : Reply Header). rasterBy a (headerText 54 file .rest)) (parsed-done h)
-
-  pub parsed-number : r .refusal ≡ refusal (pixmapTests (headerText 54 file))
-  unfolding headerOf
-  parsed-number = same-number (r .refusal) (refusal (pixmapTests (headerText 54 file))) (parsedHeader r) (textHeader (headerText 54 file)) (s .reply-is)
-
-  pub parsed-values : r .refusal ≡ 0 → textHeader (headerText 54 file) ≡ parsedHeader r
-  unfolding headerOf
-  parsed-values h = same-value (refusal (pixmapTests (headerText 54 file))) (textHeader (headerText 54 file)) (parsedHeader r) (sym (parsed-done h))
+  raster-read h = s .rest-is ∙ ap rasterBy (parsed-done s h)

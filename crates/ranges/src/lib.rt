@@ -1,4 +1,4 @@
-// The widest range of finished planes, the counters that it asks for, and the tests of planes against ranges.
+// A plane's range of finished planes; the widest of the three and the counters that it asks for; the tests of planes against ranges.
 mod arithmetic;
 mod finished;
 
@@ -9,11 +9,27 @@ ghost use Rattle.stage.specs.Ranges.{finishedRanges, widest, withinRanges};
 ghost use Rattle.stage.specs.Settings.{settingsOf, UpTo16, Allowed};
 ghost use Rattle.stage.specs.Search.{countersNeeded, countersCall};
 ghost use Rattle.stage.specs.Transform.{isPicture};
+ghost use Rattle.stage.specs.Graymap.{planeRange};
+ghost use Rattle.ranges.specs.Read.{Summable};
 use arithmetic::larger;
 use finished::finished_ranges;
 use stage::Depths;
+use stage::Range;
 use stage::Settings;
 use stage::are_depths;
+
+// The range of plane 1 or 2, and of plane 3 for every other number.
+pub fn finished_range(depths: Depths, transform: u32, plane: u32) -> Range
+    requires { ⌜ UpTo16 depths × (transform ≤ 3) ⌝ }
+    ensures { λ r. ⌜ (r ≡ planeRange depths transform plane) × Summable r ⌝ }
+{
+    let r = finished_ranges(depths, transform);
+    match plane {
+        1 => r.c1,
+        2 => r.c2,
+        _ => r.c3,
+    }
+}
 
 // D, the widest range (highest less lowest) of a transform's finished planes, which a picture's size does not change.
 pub fn widest(depths: Depths, transform: u32) -> u32

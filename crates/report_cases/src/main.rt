@@ -15,10 +15,11 @@ fn main() {
     case(b"width_8193.ppm");
     case(b"maxval_256.ppm");
     case(b"byte_missing.ppm");
-    // too large: 9 comes before the header is read, then after it
+    // too large: 9 comes before the header is read, then after it, by the trial planes and by the counters
     case(b"8192_bytes_no_header.ppm");
     case(b"8193_bytes_no_header.ppm");
     case(b"2049_pixels.ppm");
+    case(b"depth_9.ppm");
     // a sample above maxval
     case(b"sample_128_of_127.ppm");
     // pictures

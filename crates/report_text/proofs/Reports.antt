@@ -23,9 +23,9 @@ module _ (file : List ℕ) where
   unfolding reportOf
   report-refused n h e = rw (le-ltb 8192 (length file) h, ← e)
 
-  pub report-read : (h : Header) → length file ≤ 8192 → done h ≡ headerOf file → printed (lines h (rasterPlanes (rasterOf file))) ≡ reportOf file
+  pub report-read : (h : Header) → length file ≤ 8192 → done h ≡ headerOf file → printed (lines h (rasterPlanes (h .depth) (rasterOf file))) ≡ reportOf file
   unfolding reportOf
-  report-read h l e = rw (le-ltb 8192 (length file) l) (ap (λ r. printed (linesBy r (rasterPlanes (rasterOf file)))) e)
+  report-read h l e = rw (le-ltb 8192 (length file) l) (ap (λ r. printed (linesBy r (rasterOf file))) e)
 
 drop-replicate : (n m a : ℕ) → drop n (replicate m a) ≡ replicate (m - n) a
 drop-replicate zero m a = let e : m - 0 ≡ m = omega arith in rw e

@@ -50,10 +50,11 @@ printed (refused n) = refusalLine n
 abbrev pub pictureText : ℕ → ℕ → ℕ → Planes → List ℕ
 pictureText w h d p = printed (lines (record { width = w; height = h; depth = d }) p)
 
-abbrev pub linesBy : Reply Header → Planes → Reply (List ℕ)
-linesBy (done h) p = lines h p
-linesBy (refused n) p = refused n
+-- of a file, by its header and its raster
+abbrev pub linesBy : Reply Header → List ℕ → Reply (List ℕ)
+linesBy (done h) raster = lines h (rasterPlanes (h .depth) raster)
+linesBy (refused n) raster = refused n
 
 -- "Input above 8,192 bytes gives `refused 9` before its header is read."
 unfoldable pub reportOf : List ℕ → List ℕ
-reportOf file = printed (cond (ltb 8192 (length file)) (refused 9) (linesBy (headerOf file) (rasterPlanes (rasterOf file))))
+reportOf file = printed (cond (ltb 8192 (length file)) (refused 9) (linesBy (headerOf file) (rasterOf file)))

@@ -81,7 +81,7 @@ fn put_planes(
     c3: &mut [i32],
 ) -> usize
     requires { ⌜ LentPlanes (now file) (record { width = width; height = height; depth = depth }) (triple (now c1) (now c2) (now c3)) (now text) ⌝ }
-    ensures { λ r. ⌜ ReportAt (now (text .entry)) (pictureText width height depth (rasterPlanes (rasterOf (now (file .entry))))) (now (text .exit)) r ⌝ }
+    ensures { λ r. ⌜ ReportAt (now (text .entry)) (pictureText width height depth (rasterPlanes depth (rasterOf (now (file .entry))))) (now (text .exit)) r ⌝ }
 {
     pixmap::planes(file, c1, c2, c3);
     put_picture(text, width, height, depth, c1, c2, c3)
@@ -97,7 +97,7 @@ fn new_plane() -> [i32; 2730]
 // The report on a pixmap of at most 8,192 bytes.
 pub fn put_pixmap(text: &mut [u8], file: &[u8], width: u32, height: u32, depth: u32) -> usize
     requires { ⌜ ShortPixmap (now file) (record { width = width; height = height; depth = depth }) (now text) ⌝ }
-    ensures { λ r. ⌜ ReportAt (now (text .entry)) (pictureText width height depth (rasterPlanes (rasterOf (now (file .entry))))) (now (text .exit)) r ⌝ }
+    ensures { λ r. ⌜ ReportAt (now (text .entry)) (pictureText width height depth (rasterPlanes depth (rasterOf (now (file .entry))))) (now (text .exit)) r ⌝ }
 {
     let mut c1 = new_plane();
     let mut c2 = new_plane();

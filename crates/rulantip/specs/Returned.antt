@@ -3,10 +3,16 @@ use Prim.Native.Nat.{ℕ}
 use Rattle.stage.specs.Answers.{Reply, done, refused, Outcome, number}
 use Rattle.stage.specs.Search as search
 use Rattle.stage.specs.Pixmap as pixmap
+use Rattle.stage.specs.Graymap.{Size}
 use Rattle.search.specs.declared.Estimated.{Estimated}
 use Rattle.search.specs.Calls.{replyOf}
+use Rattle.graymap.specs.declared.answers.Stored.{Stored}
+use Rattle.graymap.specs.declared.answers.Restored.{Restored}
+use Rattle.graymap.specs.Replies.{storedReply, restoredReply}
 use Rattle.rulantip.specs.declared.RulantipEstimated.{RulantipEstimated}
-use Rattle.rulantip.specs.declared.RulantipPixmap.{RulantipPixmap}
+use Rattle.rulantip.specs.declared.files.RulantipPixmap.{RulantipPixmap}
+use Rattle.rulantip.specs.declared.files.RulantipWritten.{RulantipWritten}
+use Rattle.rulantip.specs.declared.files.RulantipGraymap.{RulantipGraymap}
 
 -- a returned value, and what the lent memory holds
 pub record Returned (R M : Type 0) : Type 0 where
@@ -34,3 +40,23 @@ estimatedReturned o = returned (estimatedBy (o .reply)) (o .memory)
 abbrev pub pixmapReturned : Reply pixmap.Header → RulantipPixmap
 pixmapReturned (done h) = record { refusal = 0; width = h .width; height = h .height; depth = h .depth }
 pixmapReturned (refused n) = record { refusal = n; width = 0; height = 0; depth = 0 }
+
+abbrev pub writtenBy : Reply ℕ → RulantipWritten
+writtenBy (done n) = record { refusal = 0; length = n }
+writtenBy (refused n) = record { refusal = n; length = 0 }
+
+abbrev pub storedOf : Stored → RulantipWritten
+storedOf r = writtenBy (storedReply r)
+
+abbrev pub writtenReturned : {M : Type 0} → Outcome ℕ M → Returned RulantipWritten M
+writtenReturned o = returned (writtenBy (o .reply)) (o .memory)
+
+abbrev pub graymapBy : Reply Size → RulantipGraymap
+graymapBy (done s) = record { refusal = 0; width = s .width; height = s .height }
+graymapBy (refused n) = record { refusal = n; width = 0; height = 0 }
+
+abbrev pub restoredOf : Restored → RulantipGraymap
+restoredOf r = graymapBy (restoredReply r)
+
+abbrev pub graymapReturned : {M : Type 0} → Outcome Size M → Returned RulantipGraymap M
+graymapReturned o = returned (graymapBy (o .reply)) (o .memory)

@@ -5,18 +5,17 @@ ghost use Rattle.stage.specs.Answers.{number, replyOf};
 ghost use Rattle.stage.specs.Planes.{triple};
 ghost use Rattle.stage.specs.Settings.{depthsOf, settingsOf};
 ghost use Rattle.stage.specs.Search.{countersCall, estimateCall, searchCall};
-ghost use Rattle.stage.specs.Pixmap.{headerOf, planesOf};
 ghost use Rattle.search.specs.Calls.{scratchOf, lent};
-ghost use Rattle.rulantip.specs.Returned.{returned, numbered, estimatedOf, estimatedReturned, pixmapReturned};
-use pixmap::Header;
+ghost use Rattle.rulantip.specs.Returned.{returned, estimatedOf, estimatedReturned};
 use search::Estimated;
 use stage::Answer;
 use stage::Depths;
 use stage::Settings;
 
+pub mod files;
 pub mod transforms;
 
-fn depths(depth1: u32, depth2: u32, depth3: u32) -> Depths
+pub(crate) fn depths(depth1: u32, depth2: u32, depth3: u32) -> Depths
     ensures { λ r. ⌜ r ≡ depthsOf depth1 depth2 depth3 ⌝ }
 {
     Depths {
@@ -130,48 +129,4 @@ pub extern "C" fn rulantip_search(
 {
     let settings = settings(width, height, depth1, depth2, depth3, transform);
     returned(search::search(settings, rounds, choices, c1, c2, c3, t1, t2, t3, counters))
-}
-
-#[repr(C)]
-pub struct RulantipPixmap {
-    pub refusal: u32,
-    pub width: u32,
-    pub height: u32,
-    pub depth: u32,
-}
-
-#[no_mangle]
-pub extern "C" fn rulantip_p6_header(file: &[u8]) -> RulantipPixmap
-    ensures { λ r. ⌜ r ≡ pixmapReturned (headerOf (now (file .entry))) ⌝ }
-{
-    match pixmap::header(file) {
-        Header::Picture {
-            width,
-            height,
-            depth,
-        } => RulantipPixmap {
-            refusal: 0,
-            width,
-            height,
-            depth,
-        },
-        Header::Refused(n) => RulantipPixmap {
-            refusal: n,
-            width: 0,
-            height: 0,
-            depth: 0,
-        },
-    }
-}
-
-#[no_mangle]
-pub extern "C" fn rulantip_p6_planes(
-    file: &[u8],
-    c1: &mut [i32],
-    c2: &mut [i32],
-    c3: &mut [i32],
-) -> u32
-    ensures { λ r. ⌜ returned r (triple (now (c1 .exit)) (now (c2 .exit)) (now (c3 .exit))) ≡ numbered (planesOf (now (file .entry)) (triple (now (c1 .entry)) (now (c2 .entry)) (now (c3 .entry)))) ⌝ }
-{
-    number(pixmap::planes(file, c1, c2, c3))
 }

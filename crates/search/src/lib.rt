@@ -15,8 +15,8 @@ use scratch::prepare;
 use stage::Bands;
 use stage::Settings;
 use stage::is_between;
+use stage::select;
 use transform::settings::choices_fit;
-use transform::settings::select;
 use trials::estimate_picture;
 use trials::search_picture;
 

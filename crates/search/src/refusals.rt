@@ -10,8 +10,8 @@ use stage::Bands;
 use stage::Form;
 use stage::Plan;
 use stage::Settings;
+use stage::select;
 use transform::settings::refusal;
-use transform::settings::select;
 
 fn counters_fit(settings: Settings, counters: usize) -> bool
     requires { ⌜ Allowed settings ⌝ }

@@ -31,6 +31,10 @@ refusal-holds ((true else n) ∷ l) k e = (tt, refusal-holds l (k .1) e)
 refusal-holds ((false else zero) ∷ l) k e = absurd (k .0)
 refusal-holds ((false else suc n) ∷ l) k e = absurd (omega arith)
 
+-- a test as the code made it, before later tests that gave n
+pub test-made : {made is : Bool} {n later r : ℕ} (m : ℕ) → made ≡ is → n ≡ later → r ≡ cond made n m → r ≡ cond is later m
+test-made m f g e = e ∙ (λ o. cond (f o) (g o) m)
+
 -- past tests that hold the rest decides
 pub refusal-past : (l m : List Test) → Holds l → refusal (l ++ m) ≡ refusal m
 refusal-past [] m h = refl
@@ -60,6 +64,10 @@ module _ {A M : Type 0} (v : A) (result before : M) where
 
   pub outcome-refused : (l : List Test) (n : ℕ) → n ≡ refusal l → (n ≡ 0 → ⊥) → outcome l v result before ≡ record { reply = refused n; memory = before }
   outcome-refused l n e g = rw (sym e, ne-eqb n 0 g)
+
+  -- past tests that hold, the outcome is that of the rest
+  pub outcome-past : (l m : List Test) → Holds l → outcome (l ++ m) v result before ≡ outcome m v result before
+  outcome-past l m h = rw (refusal-past l m h)
 
   -- a call that answers `done` made no refusal
   pub done-refusal : (l : List Test) (u : A) → answer l v ≡ done u → refusal l ≡ 0

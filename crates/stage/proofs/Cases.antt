@@ -13,7 +13,9 @@ use Rattle.stage.specs.Transform.{forward, inverse, transformed, untrans
 use Rattle.stage.specs.Logarithm.{L}
 use Rattle.stage.specs.Estimate.{med, prediction, residual, counted, countedIndex, occurrences, histogram, total, logSum, estimateOfCounts, planeEstimate, pictureEstimate}
 use Rattle.stage.specs.Search.{winner, round, rounds, searched, choicesEstimate, estimateCall, searchCall}
-use Rattle.stage.specs.Pixmap.{isWhite, endsStretch, staysInside, afterStretch, field, headerText, depthAmong, headerOf, rasterOf, everyThird, planesOf}
+use Rattle.stage.specs.Raster.{fromPairs, toPairs}
+use Rattle.stage.specs.Pixmap.{isWhite, endsStretch, staysInside, afterStretch, field, headerText, depthAmong, fileOf, headerOf, rasterOf, everyThird, planesOf}
+use Rattle.stage.specs.Graymap.{writtenHeader, graymapWritten, graymapRead}
 use Rattle.stage.specs.Case.{count}
 use Rattle.stage.specs.Cases.{marked, CasesHold}
 use Rattle.stage.specs.FilterCases.{oneColour, filterCases, countedCases, FilterCasesHold}
@@ -23,6 +25,7 @@ use Rattle.stage.specs.WrappedCases.{wrappedCases, keptCases, refusalCas
 use Rattle.stage.specs.BandCases.{bandCases, bandStepCases, bandRefusalCases, BandCasesHold}
 use Rattle.stage.specs.SearchCases.{estimateCases, tieCases, scratchCases, EstimateCasesHold, TieCasesHold}
 use Rattle.stage.specs.PixmapCases.{textCases, fileCases, planesCases, PixmapCasesHold}
+use Rattle.stage.specs.GraymapCases.{rasterCases, writeCases, writeOrderCases, readCases, readOrderCases, GraymapCasesHold}
 use Rattle.stage.proofs.OneColour.{one-colour}
 
 pub cases-hold : CasesHold
@@ -63,5 +66,9 @@ unfolding estimateCases scratchCases transformed filtered mean allWithin med pre
 estimate-cases-hold = (refl, refl)
 
 pub pixmap-cases-hold : PixmapCasesHold
-unfolding textCases fileCases planesCases isDigit decimal digitCount afterDigits digits numeral isWhite endsStretch staysInside afterStretch field headerText depthAmong headerOf rasterOf everyThird planesOf
+unfolding textCases fileCases planesCases isDigit decimal digitCount afterDigits digits numeral isWhite endsStretch staysInside afterStretch field headerText depthAmong fileOf headerOf rasterOf fromPairs everyThird planesOf
 pixmap-cases-hold = (refl, refl, refl)
+
+pub graymap-cases-hold : GraymapCasesHold
+unfolding rasterCases writeCases writeOrderCases readCases readOrderCases isDigit decimal afterDigits digits numeral isWhite endsStretch staysInside afterStretch field headerText fromPairs toPairs allWithin writtenHeader graymapWritten graymapRead
+graymap-cases-hold = (refl, refl, refl, refl, refl)

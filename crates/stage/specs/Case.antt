@@ -11,8 +11,9 @@ use Rattle.stage.specs.Ranges.{Range}
 use Rattle.stage.specs.Transform.{forward, inverse}
 use Rattle.stage.specs.Search.{Estimated, Scratch, Lent}
 use Rattle.stage.specs.Pixmap.{Header}
+use Rattle.stage.specs.Graymap.{Size}
 
--- what is compared: plain values, a call's answer with the memory lent to it, a file's header with its raster
+-- what is compared: plain values, a call's answer with the memory lent to it, a file's header with its raster, a graymap written and read
 pub data Value : Type 0 where
   truths : List Bool → Value
   count : ℕ → Value
@@ -24,6 +25,8 @@ pub data Value : Type 0 where
   estimate : Outcome Estimated Scratch → Value
   search : Outcome Estimated Lent → Value
   file : Reply Header → List ℕ → Value
+  written : Outcome ℕ (List ℕ) → Value
+  read : Outcome Size (List ℤ) → Value
 
 infix 10 _gives_
 pub data Case : Type 0 where

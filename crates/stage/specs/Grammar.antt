@@ -1,12 +1,13 @@
--- The header once more, as a grammar (01, "Pixmaps and the report"): which bytes are a comment, a stretch, a number, a field, a header.
--- l is a text, b a byte, n a number. `letter` is not 01's, which has P6 alone (54).
+-- The header once more, as a grammar (01, "Pixmaps and the report"): which bytes are a comment, a stretch, a number, a field, a header; and
+-- which files of a kind k are taken. l is a text, b a byte, n a number.
 use mathlib.Core.Path.{_≡_}
 use mathlib.Core.Bool.{true, false}
 use mathlib.Core.List.{List, [], _∷_, _++_}
 use Prim.Native.Nat.{ℕ, _+_, _-_, _*_, _^_, _≤_}
 use lib.ListN.{length}
 use Rattle.stage.specs.Decimal.{isDigit}
-use Rattle.stage.specs.Pixmap.{isWhite, endsComment}
+use Rattle.stage.specs.Raster.{sampleBytes}
+use Rattle.stage.specs.Pixmap.{isWhite, endsComment, Kind, Pixmap, Graymap, letter, pixelSamples}
 
 -- what stands behind # in a comment: bytes that do not end it, and the one that does
 pub data CommentText : List ℕ → Type 0 where
@@ -46,47 +47,53 @@ pub record IsHeader (letter : ℕ) (file : List ℕ) (width height maxval : ℕ)
   pub is-maxval : IsField behind-height maxval (space ∷ raster)
   pub is-white : isWhite space ≡ true
 
+-- a maxval that is taken: "Maxval is M for a depth of 2 to 8", and of 9 to 16; a graymap's own
+pub record IsDepth (maxval : ℕ) : Type 0 where
+  pub depth : ℕ
+  pub depth-range : (2 ≤ depth) × (depth ≤ 16)
+  pub is-maxval : maxval ≡ 2 ^ depth - 1
+
+abbrev pub Takes : Kind → (maxval : ℕ) → Type 0
+Takes Pixmap maxval = IsDepth maxval
+Takes (Graymap n) maxval = maxval ≡ n
+
 -- a file that no refusal concerns
-pub record IsPixmap (file : List ℕ) (width height depth : ℕ) (raster : List ℕ) : Type 0 where
-  pub maxval : ℕ
-  pub is-header : IsHeader 54 file width height maxval raster
+pub record IsFile (k : Kind) (file : List ℕ) (width height maxval : ℕ) (raster : List ℕ) : Type 0 where
+  pub is-header : IsHeader (letter k) file width height maxval raster
   pub width-range : (1 ≤ width) × (width ≤ 8192)
   pub height-range : (1 ≤ height) × (height ≤ 8192)
-  pub depth-range : (2 ≤ depth) × (depth ≤ 8)
-  pub is-maxval : maxval ≡ 2 ^ depth - 1
-  pub is-length : length raster ≡ 3 * width * height
+  pub is-taken : Takes k maxval
+  pub is-length : length raster ≡ pixelSamples k * sampleBytes maxval * width * height
 
 -- ---- files of that form that are refused all the same, in order
 -- "2 width or height outside 1 to 8,192"
-pub record WrongSize (file : List ℕ) : Type 0 where
+pub record WrongSize (k : Kind) (file : List ℕ) : Type 0 where
   pub width : ℕ
   pub height : ℕ
   pub maxval : ℕ
   pub raster : List ℕ
-  pub is-header : IsHeader 54 file width height maxval raster
+  pub is-header : IsHeader (letter k) file width height maxval raster
   pub wrong : ((1 ≤ width) × (width ≤ 8192)) × ((1 ≤ height) × (height ≤ 8192)) → ⊥
 
--- "3 other maxval": M of no depth of 2 to 8
-pub record WrongMaxval (file : List ℕ) : Type 0 where
+-- "3 other maxval"
+pub record WrongMaxval (k : Kind) (file : List ℕ) : Type 0 where
   pub width : ℕ
   pub height : ℕ
   pub maxval : ℕ
   pub raster : List ℕ
-  pub is-header : IsHeader 54 file width height maxval raster
+  pub is-header : IsHeader (letter k) file width height maxval raster
   pub width-range : (1 ≤ width) × (width ≤ 8192)
   pub height-range : (1 ≤ height) × (height ≤ 8192)
-  pub wrong : (depth : ℕ) → (2 ≤ depth) × (depth ≤ 8) → maxval ≡ 2 ^ depth - 1 → ⊥
+  pub wrong : Takes k maxval → ⊥
 
 -- "4 raster length wrong"
-pub record WrongLength (file : List ℕ) : Type 0 where
+pub record WrongLength (k : Kind) (file : List ℕ) : Type 0 where
   pub width : ℕ
   pub height : ℕ
-  pub depth : ℕ
   pub maxval : ℕ
   pub raster : List ℕ
-  pub is-header : IsHeader 54 file width height maxval raster
+  pub is-header : IsHeader (letter k) file width height maxval raster
   pub width-range : (1 ≤ width) × (width ≤ 8192)
   pub height-range : (1 ≤ height) × (height ≤ 8192)
-  pub depth-range : (2 ≤ depth) × (depth ≤ 8)
-  pub is-maxval : maxval ≡ 2 ^ depth - 1
-  pub wrong : length raster ≡ 3 * width * height → ⊥
+  pub is-taken : Takes k maxval
+  pub wrong : length raster ≡ pixelSamples k * sampleBytes maxval * width * height → ⊥

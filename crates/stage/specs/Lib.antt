@@ -9,7 +9,9 @@ pub mod Transform
 pub mod Logarithm
 pub mod Estimate
 pub mod Search
+pub mod Raster
 pub mod Pixmap
+pub mod Graymap
 pub mod Grammar
 pub mod Case
 pub mod Cases
@@ -20,6 +22,7 @@ pub mod WrappedCases
 pub mod BandCases
 pub mod SearchCases
 pub mod PixmapCases
+pub mod GraymapCases
 pub mod Equations
 pub mod Demand3
 pub mod WrappedForms

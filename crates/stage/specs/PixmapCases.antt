@@ -31,10 +31,11 @@ textCases =
     -- "White space is blank, tab, line feed, vertical tab, form feed or carriage return": 32, 9, 10, 11, 12, 13
     ∷ (truths (map isWhite (8 ∷ 9 ∷ 10 ∷ 11 ∷ 12 ∷ 13 ∷ 14 ∷ 31 ∷ 32 ∷ 33 ∷ []))
     gives truths (false ∷ true ∷ true ∷ true ∷ true ∷ true ∷ false ∷ false ∷ true ∷ false ∷ []))
-    -- "Maxval is M for a depth of 2 to 8": M for 1 to 9, and the depths
+    -- "Maxval is M for a depth of 2 to 8", "P6 input gains depths 9 to 16": M for 1 to 9 and for 15 to 17, and the depths
     ∷ (counts (map depthOf (1 ∷ 3 ∷ 7 ∷ 15 ∷ 31 ∷ 63 ∷ 127 ∷ 255 ∷ 511 ∷ []))
-    gives counts (0 ∷ 2 ∷ 3 ∷ 4 ∷ 5 ∷ 6 ∷ 7 ∷ 8 ∷ 0 ∷ []))
-    ∷ (counts (map depthOf (0 ∷ 2 ∷ 254 ∷ 256 ∷ [])) gives counts (0 ∷ 0 ∷ 0 ∷ 0 ∷ []))
+    gives counts (0 ∷ 2 ∷ 3 ∷ 4 ∷ 5 ∷ 6 ∷ 7 ∷ 8 ∷ 9 ∷ []))
+    ∷ (counts (map depthOf (32767 ∷ 65535 ∷ 131071 ∷ [])) gives counts (15 ∷ 16 ∷ 0 ∷ []))
+    ∷ (counts (map depthOf (0 ∷ 2 ∷ 254 ∷ 256 ∷ 65534 ∷ [])) gives counts (0 ∷ 0 ∷ 0 ∷ 0 ∷ 0 ∷ []))
     ∷ []
 
 -- two pixels
@@ -93,16 +94,21 @@ fileCases =
     ∷ (reads (80 ∷ 54 ∷ 10 ∷ 50 ∷ 32 ∷ 49 ∷ 10 ∷ 50 ∷ 53 ∷ 53 ∷ 10 ∷ 10 ∷ raster) gives refusesFile 4)
     -- a comment behind the header, which belongs to the raster
     ∷ (reads (80 ∷ 54 ∷ 10 ∷ 50 ∷ 32 ∷ 49 ∷ 10 ∷ 50 ∷ 53 ∷ 53 ∷ 10 ∷ 35 ∷ 10 ∷ raster) gives refusesFile 4)
+    -- maxval 511, and a raster of one byte a sample
+    ∷ (reads (80 ∷ 54 ∷ 10 ∷ 50 ∷ 32 ∷ 49 ∷ 10 ∷ 53 ∷ 49 ∷ 49 ∷ 10 ∷ raster) gives refusesFile 4)
     -- one byte short
     ∷ (reads (80 ∷ 54 ∷ 10 ∷ 50 ∷ 32 ∷ 49 ∷ 10 ∷ 50 ∷ 53 ∷ 53 ∷ 10 ∷ 10 ∷ 20 ∷ 30 ∷ 40 ∷ 50 ∷ []) gives refusesFile 4)
     ∷ []
 
--- ---- the call that fills three lent planes: 01's example, and one without its raster
+-- ---- the call that fills three lent planes: 01's example, one without its raster, and one of maxval 511
 abbrev whole : List ℕ
 whole = 80 ∷ 54 ∷ 10 ∷ 50 ∷ 32 ∷ 49 ∷ 10 ∷ 50 ∷ 53 ∷ 53 ∷ 10 ∷ raster
 
 abbrev cut : List ℕ
 cut = 80 ∷ 54 ∷ 10 ∷ 50 ∷ 32 ∷ 49 ∷ 10 ∷ 50 ∷ 53 ∷ 53 ∷ 10 ∷ []
+
+abbrev deep : List ℕ
+deep = 80 ∷ 54 ∷ 10 ∷ 50 ∷ 32 ∷ 49 ∷ 10 ∷ 53 ∷ 49 ∷ 49 ∷ 10 ∷ 0 ∷ 10 ∷ 1 ∷ 255 ∷ 0 ∷ 30 ∷ 1 ∷ 0 ∷ 0 ∷ 50 ∷ 255 ∷ 255 ∷ []
 
 abbrev one : List ℤ
 one = pos 7 ∷ []
@@ -115,6 +121,9 @@ planesCases =
     -- "R G B by pixel"
     (call (planesOf whole (triple two two two))
     gives accepted (triple (pos 10 ∷ pos 40 ∷ []) (pos 20 ∷ pos 50 ∷ []) (pos 30 ∷ pos 60 ∷ [])))
+    -- "two bytes a sample", the more significant first; the last is above maxval and stays as it is
+    ∷ (call (planesOf deep (triple two two two))
+    gives accepted (triple (pos 10 ∷ pos 256 ∷ []) (pos 511 ∷ pos 50 ∷ []) (pos 30 ∷ pos 65535 ∷ [])))
     -- "8 a plane's length not width × height", and the file's own refusal before it
     ∷ (call (planesOf whole (triple two one two)) gives refuses 8 (triple two one two))
     ∷ (call (planesOf cut (triple two one two)) gives refuses 4 (triple two one two))

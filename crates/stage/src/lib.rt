@@ -1,6 +1,7 @@
-// What the code of all crates shares with the definitions of the colour stage (specs/): the planes, a run's settings, a range, an
-// answer, and the tests of sizes and lengths.
+// What the code of all crates shares with the definitions of the colour stage (specs/): the planes, a run's settings, a kind of file, a
+// range, an answer, and the tests of sizes and lengths.
 ghost use mathlib.Core.Path.{_≡_};
+ghost use mathlib.Core.Bool.{cond};
 ghost use Rattle.stage.specs.Answers.{between, sized};
 ghost use Rattle.stage.specs.Planes.{triple, samePlane};
 ghost use Rattle.stage.specs.Settings.{each, depthsAllowed, depthsSuit, bandsSuit};
@@ -80,6 +81,12 @@ pub struct Plan {
     pub bands: Bands,
 }
 
+// What a portable file of samples may be: a pixmap (P6) of any depth, or a graymap (P5) with this maxval.
+pub enum Kind {
+    Pixmap,
+    Graymap(u32),
+}
+
 // −below to above
 pub struct Range {
     pub below: u32,
@@ -136,4 +143,11 @@ pub fn all_equal(n: usize, n1: usize, n2: usize, n3: usize) -> bool
     ensures { λ r. ⌜ r ≡ allEqual n (triple n1 n2 n3) ⌝ }
 {
     (n1 == n) & ((n2 == n) & (n3 == n))
+}
+
+// x where b holds, else y: what the later tests gave, or the number of a test that fails.
+pub fn select(b: bool, x: u32, y: u32) -> u32
+    ensures { λ r. ⌜ r ≡ cond b x y ⌝ }
+{
+    if b { x } else { y }
 }

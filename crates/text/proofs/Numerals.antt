@@ -62,10 +62,12 @@ few (suc k) (suc j) n h =
     (λ s. rw (more-digits j n s) (simp length-append (omega (arith, few k j (n / 10) (let t = rw pow-suc at h in omega arith)))))
     (lower-or-not n)
 
-pub numeral-short : (n : ℕ) → n < 4294967296 → length (numeral n) ≤ 10
+pub numeral-few : (k n : ℕ) → n < 10 ^ suc k → length (numeral n) ≤ suc k
 unfolding numeral
-numeral-short n h = few 9 n n (omega arith)
+numeral-few k n h = few k n n h
+
+pub numeral-short : (n : ℕ) → n < 4294967296 → length (numeral n) ≤ 10
+numeral-short n h = numeral-few 9 n (omega arith)
 
 pub byte-short : (n : ℕ) → n < 256 → length (numeral n) ≤ 3
-unfolding numeral
-byte-short n h = few 2 n n (omega arith)
+byte-short n h = numeral-few 2 n (omega arith)

@@ -4,6 +4,7 @@ mod writing;
 
 pub use reading::Number;
 pub use reading::read_number;
+pub use writing::digit_count;
 pub use writing::put_byte;
 pub use writing::put_bytes;
 pub use writing::put_field;

@@ -34,6 +34,19 @@ fn digit(n: u32) -> u8
     48 + n as u8
 }
 
+// How many decimal digits a number has, without leading zeros.
+pub fn digit_count(n: u32) -> usize
+    ensures { λ r. ⌜ (r ≡ length (numeral n)) × (r ≤ 10) ⌝ }
+{
+    let mut count = 1;
+    let mut rest = n;
+    while 10 <= rest {
+        rest = rest / 10;
+        count += 1;
+    }
+    count
+}
+
 // A number in decimal digits, without leading zeros.
 pub fn put_number(text: &mut [u8], at: usize, n: u32) -> usize
     requires { ⌜ at + length (numeral n) ≤ length (now text) ⌝ }

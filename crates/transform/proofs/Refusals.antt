@@ -1,6 +1,6 @@
 -- The settings' tests in their order.
 use mathlib.Core.Path.{_≡_, sym, ap, _∙_}
-use mathlib.Core.Bool.{Bool, false, cond, _&&_}
+use mathlib.Core.Bool.{false, _&&_}
 use mathlib.Core.List.{List}
 use Prim.Native.Nat.{ℕ, zero, suc, _+_, _-_, _≤_, _<_}
 use native.Mathlib.Nat.{div-zero}
@@ -22,10 +22,6 @@ choice-above l i r h e g = next-choice l i h ∙ rw (lt-leb (getD l i 0) 12 (rw 
 
 pub choice-within : (l : List ℕ) (i r : ℕ) → i < length l → r ≡ getD l i 0 → r ≤ 12 → allFilters (drop i l) ≡ allFilters (drop (i + 1) l)
 choice-within l i r h e g = next-choice l i h ∙ rw (le-leb (getD l i 0) 12 (rw e at g))
-
--- a test as the code made it, before later tests that gave n
-pub test-made : {made is : Bool} {n later r : ℕ} (m : ℕ) → made ≡ is → n ≡ later → r ≡ cond made n m → r ≡ cond is later m
-test-made m f g e = e ∙ (λ o. cond (f o) (g o) m)
 
 -- no transform has more than four places
 pub places-few : (t : ℕ) → places (steps t) ≤ 4

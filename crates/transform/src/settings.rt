@@ -1,6 +1,5 @@
 // What the calling program can get wrong, in the papers' order, from numbers and lengths alone.
 ghost use mathlib.Core.Path.{_≡_};
-ghost use mathlib.Core.Bool.{cond};
 ghost use Prim.Native.Nat.{_<_};
 ghost use Rattle.stage.specs.Answers.{refusal};
 ghost use Rattle.stage.specs.Planes.{triple};
@@ -15,6 +14,7 @@ use stage::are_depths;
 use stage::bands_suit;
 use stage::depths_suit;
 use stage::is_sized;
+use stage::select;
 
 // How many bands of so many rows a picture has, the last one perhaps shorter; none where a band has no row.
 fn band_count(rows: u32, height: u32) -> usize
@@ -53,13 +53,6 @@ pub fn choices_fit(settings: Settings, bands: Bands, choices: &[u8]) -> bool
         i += 1;
     }
     true
-}
-
-// x where b holds, else y: what the later tests gave, or the number of a test that fails.
-pub fn select(b: bool, x: u32, y: u32) -> u32
-    ensures { λ r. ⌜ r ≡ cond b x y ⌝ }
-{
-    if b { x } else { y }
 }
 
 // The first setting that is refused, or 0. `choices` says whether the call's own test of the choices holds; n1, n2 and n3 are the

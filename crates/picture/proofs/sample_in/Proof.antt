@@ -1,5 +1,5 @@
 -- `sample_in`, walked by hand: _4 := open(_1); _0 := sample(_4, _2, _3).
-use mathlib.Core.Path.{_≡_, refl, ap, _∙_}
+use mathlib.Core.Path.{_≡_, refl, ap₂, _∙_}
 use mathlib.Core.List.{List, [], _∷_}
 use Prim.Native.Nat.{ℕ}
 use lib.IntN.{ℤ}
@@ -25,6 +25,7 @@ use denote.Triple.Spec.{Meets, tripleOf}
 use denote.Triple.Table.{cited}
 use denote.Triple.Walked.{walkOf}
 use Rattle.picture.specs.OnFile.{sampleOf, PictureOf}
+use Rattle.picture.specs.declared.Numbers.{Numbers}
 use Rattle.picture.specs.declared.Picture.{Picture}
 use Rattle.picture.proofs.Pictures.{value, picture-known, slice-known, usize-known, sample-known}
 use Rattle.picture.proofs.Walks.{stays, Tokens, Owned, Walk, ends, twice, asks, freed, framed, proved}
@@ -71,11 +72,11 @@ module _ {M : Type 1} {𝓤 : URA M} {H : Heap 𝓤} {A : Atoms 𝓤} (W : Given
       land ! (from ! (stop !)) (init ! 4 refl (tt, fits .0 .1)) $
       move ! (2 ∷ []) $ fsplit ! $ drop ! $ move ! (1 ∷ 0 ∷ []) $ fjoin ! $ move ! (1 ∷ 0 ∷ []) $ join ! $
       -- [what `sample` asks; what the parameters own; _4; …; _0]
-      asks W h.ended hc (hy p) ! fm samples (id⊢ 𝓤 _) (sample-known W) (λ (r : ℤ). r ≡ sampleOf (now (p .raster)) offset index) (λ r ws. id⊢ 𝓤 _)
+      asks W h.ended hc (hy p) ! fm samples (id⊢ 𝓤 _) (sample-known W) (λ (r : ℤ). r ≡ sampleOf (p .depth) (now (p .raster)) offset index) (λ r ws. id⊢ 𝓤 _)
       (and-then ! (load ! (from ! (stop !)) (look ! 2 refl)) (and-then ! (load ! (from ! (stop !)) (look ! 6 refl)) (and-then ! (load ! (from ! (stop !)) (look ! 4 refl)) (no-more !)))) (λ r e′ fits′.
       land ! (from ! (stop !)) (init ! 11 refl (fits′ .0)) $
       move ! (11 ∷ 12 ∷ 9 ∷ 10 ∷ 7 ∷ 8 ∷ 5 ∷ 6 ∷ 3 ∷ 4 ∷ []) $ returns ! (look ! 0 refl) $ freed ! $ freed ! $ freed ! $ freed ! $ freed ! $ free0 ! $
-      by ! (ends W f.ended c y _ r (tt, (tt, (tt, tt))) (factI 𝓤 _ (emp 𝓤) (e′ ∙ ap (λ (l : List ℕ). sampleOf l offset index) (e .raster-is .bytes-are)))))))))))
+      by ! (ends W f.ended c y _ r (tt, (tt, (tt, tt))) (factI 𝓤 _ (emp 𝓤) (e′ ∙ ap₂ (λ (n : Numbers) (l : List ℕ). sampleOf (n .depth) l offset index) (e .numbers-are) (e .raster-is .bytes-are)))))))))))
 
 pub sample-in-spec : {M : Type 1} → stated.statement M
 unfolding code.routine

@@ -11,10 +11,10 @@ use Rattle.pixmap.proofs.depth_of.Statement.{statement}
 use Rattle.pixmap.proofs.depth_of.Tie as tie
 
 abbrev Inv-loop : tie.InvT-loop
-Inv-loop maxval b₀ b = (2 ≤ b) × (b ≤ 9) × (depthAmong (9 - b) b maxval ≡ depthOf maxval)
+Inv-loop maxval b₀ b = (2 ≤ b) × (b ≤ 17) × (depthAmong (17 - b) b maxval ≡ depthOf maxval)
 
 abbrev μ-loop : tie.MeasureT-loop
-μ-loop maxval b₀ b = 9 - b
+μ-loop maxval b₀ b = 17 - b
 
 loop-holds : tie.Need-loop-holds Inv-loop μ-loop
 loop-holds c = (omega arith, omega arith, refl)

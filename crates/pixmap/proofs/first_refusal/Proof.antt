@@ -39,7 +39,7 @@ returns-2 c =
     rw (not-false (a .formed) (c .before .before .if1 .left), failed {t = sized (a .width) (a .height)} (c .before .is-sized .ensures) (c .if2 .taken))
 
 returns-3 : tie.Need-returns-3
-returns-3 c = rw (is-formed (c .before), is-sized (c .before), not-true (start (c .before) .args .known) (c .if3 .taken))
+returns-3 c = rw (is-formed (c .before), is-sized (c .before), not-true (start (c .before) .args .taken) (c .if3 .taken))
 
 mul-if4 : tie.Need-mul-if4
 mul-if4 c =
@@ -55,12 +55,12 @@ cast-if4 c = record { fits = omega (arith, raster-bytes (c .before)) }
 returns-4 : tie.Need-returns-4
 returns-4 c =
     let e = c .before .before in
-    rw (is-formed e, is-sized e, not-false (start e .args .known) (c .before .if3 .left), ne-eqb (start e .args .bytes) (bytes e) (c .if4 .taken))
+    rw (is-formed e, is-sized e, not-false (start e .args .taken) (c .before .if3 .left), ne-eqb (start e .args .bytes) (bytes e) (c .if4 .taken))
 
 returns-5 : tie.Need-returns-5
 returns-5 c =
     let e = c .before .before in
-    rw (is-formed e, is-sized e, not-false (start e .args .known) (c .before .if3 .left), eq-eqb (start e .args .bytes) (bytes e) (c .if4 .left))
+    rw (is-formed e, is-sized e, not-false (start e .args .taken) (c .before .if3 .left), eq-eqb (start e .args .bytes) (bytes e) (c .if4 .left))
 
 pub first-refusal-spec : {M : Type 1} → statement M
 first-refusal-spec =

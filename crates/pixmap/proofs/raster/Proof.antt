@@ -25,7 +25,7 @@ returns c =
     let s = c .before .before .before in
     let a = s .before .before .args in
     let l = a .file .now in
-    record { bytes-are = part-empty l ∙ raster-none l (s .parse .result) (s .parse .ensures) (c .before .if1 .taken); lent = part-pointer l (a .file .ptr) (length l) (omega arith) }
+    record { bytes-are = part-empty l ∙ raster-none (s .parse .ensures) (c .before .if1 .taken); lent = part-pointer l (a .file .ptr) (length l) (omega arith) }
 
 part-behind-requires : tie.Need-part-behind-requires
 part-behind-requires c κs = search needs
@@ -33,8 +33,7 @@ part-behind-requires c κs = search needs
 returns-2 : tie.Need-returns-2
 returns-2 c =
     let s = c .before .before .before in
-    let l = s .before .before .args .file .now in
-    record { bytes-are = c .part-behind .ensures .bytes-are ∙ raster-read l (s .parse .result) (s .parse .ensures) (c .before .if1 .left); lent = c .part-behind .ensures .lent }
+    record { bytes-are = c .part-behind .ensures .bytes-are ∙ raster-read (s .parse .ensures) (c .before .if1 .left); lent = c .part-behind .ensures .lent }
 
 pub raster-spec : {M : Type 1} → statement M
 raster-spec =

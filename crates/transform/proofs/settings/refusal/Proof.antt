@@ -4,7 +4,7 @@ use Prim.Native.Nat.{_*_, _≤_}
 use native.Mathlib.Nat.{mul-le-mul}
 use native.Mathlib.Omega.{arith}
 use lib.Dec.{leb}
-use Rattle.transform.proofs.Refusals.{test-made}
+use Rattle.stage.proofs.Answers.{test-made}
 use Rattle.transform.proofs.settings.refusal.Statement.{statement}
 use Rattle.transform.proofs.settings.refusal.Tie as tie
 

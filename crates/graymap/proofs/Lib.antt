@@ -1,0 +1,10 @@
+pub mod Lengths
+pub mod PlanesWritten
+pub mod Samples
+pub mod PlanesRead
+pub mod Headers
+pub mod ThereAndBack
+pub mod RoundTrips
+pub mod Rewriting
+pub mod Agreement
+pub mod Finished

@@ -1,0 +1,4 @@
+pub mod Pairs
+pub mod Highest
+pub mod Filling
+pub mod Raised
