@@ -71,8 +71,9 @@ writeCases =
     -- YCoCg-R's plane 3 at depth 16: "13 if the wanted maxval exceeds 65,535"; RCT's plane 2 at depths 3, 15 and 16, −16,384 to 49,152: by one
     ∷ (writes (each 16) 1 3 (pos 0 ∷ pos 0 ∷ []) 99 gives unwritten 13 99)
     ∷ (writes (depthsOf 3 15 16) 0 2 (pos 0 ∷ pos 0 ∷ []) 99 gives unwritten 13 99)
-    -- RDgDb's plane 1 at depth 2, 10 by 1: the file has 20 bytes
+    -- RDgDb's plane 1 at depth 2, 10 by 1 and 1 by 10: the file has 20 bytes
     ∷ (written (graymapWritten (settingsOf 10 1 (each 2) 2) 1 (replicate 10 (pos 3)) (sevens 19)) gives unwritten 14 19)
+    ∷ (written (graymapWritten (settingsOf 1 10 (each 2) 2) 1 (replicate 10 (pos 3)) (sevens 19)) gives unwritten 14 19)
     -- "12 for a sample outside the plane's range", one below it and one above
     ∷ (writes (each 8) 2 2 (minus 256 ∷ pos 0 ∷ []) 15 gives unwritten 12 15)
     ∷ (writes (each 8) 2 2 (pos 0 ∷ pos 256 ∷ []) 15 gives unwritten 12 15)
