@@ -52,15 +52,19 @@ int is_picture(const setting *s, int32_t *const planes[3]);
 uint32_t plain_forward(const setting *s, const uint8_t *choices, int32_t *const planes[3]);
 uint32_t plain_inverse(const setting *s, const uint8_t *choices, int32_t *const planes[3]);
 
-/* search.c */
+/* search.c; in place the picture's planes are worked on, and left as they were */
 typedef struct {
     uint32_t refusal, estimate, samples;
 } estimated;
 void fill_logarithms(void);
 estimated plain_estimate(const setting *s, const uint8_t *choices, int32_t *const planes[3], int32_t *const trial[3],
                          uint32_t *counters);
+estimated plain_estimate_in_place(const setting *s, const uint8_t *choices, int32_t *const planes[3],
+                                  uint32_t *counters);
 estimated plain_search(const setting *s, uint32_t rounds, uint8_t *choices, int32_t *const planes[3],
                        int32_t *const trial[3], uint32_t *counters);
+estimated plain_search_in_place(const setting *s, uint32_t rounds, uint8_t *choices, int32_t *const planes[3],
+                                uint32_t *counters);
 
 /* graymaps.c; planes count from 1 here, and only the size, depth and transform of a setting matter */
 typedef struct {
@@ -76,32 +80,38 @@ graymap plain_p5_read(const setting *s, uint32_t plane, const uint8_t *file, siz
 uint32_t plain_p6_planes(const uint8_t *file, size_t length, int32_t *const planes[3], size_t count);
 
 /* cases.c */
-enum kind { TRANSFORM, WRAPPED_TRANSFORM, BANDED, WRAPPED_BANDED, ESTIMATE, SEARCH, GRAYMAP, PIXMAP, KINDS };
+enum kind {
+    TRANSFORM, WRAPPED_TRANSFORM, BANDED, WRAPPED_BANDED, ESTIMATE, SEARCH, ESTIMATE_IN_PLACE, SEARCH_IN_PLACE,
+    GRAYMAP, PIXMAP, KINDS
+};
 /* bits of a set of calls, in the order of their names */
 enum call {
     FORWARD = 1, INVERSE = 2, FORWARD_WRAPPED = 4, INVERSE_WRAPPED = 8,
     FORWARD_BANDED = 16, INVERSE_BANDED = 32, FORWARD_WRAPPED_BANDED = 64, INVERSE_WRAPPED_BANDED = 128,
-    ESTIMATES = 256, SEARCHES = 512, P5_WRITE = 1024, P5_READ = 2048, P6_PLANES = 4096
+    ESTIMATES = 256, SEARCHES = 512, ESTIMATES_IN_PLACE = 1024, SEARCHES_IN_PLACE = 2048,
+    P5_WRITE = 4096, P5_READ = 8192, P6_PLANES = 16384
 };
-#define CALLS 13
+#define CALLS 15
 #define PLAIN_FORMS (FORWARD | INVERSE)
 #define WRAPPED_FORMS (FORWARD_WRAPPED | INVERSE_WRAPPED)
 #define BANDED_FORMS (FORWARD_BANDED | INVERSE_BANDED)
 #define WRAPPED_BANDED_FORMS (FORWARD_WRAPPED_BANDED | INVERSE_WRAPPED_BANDED)
+#define IN_PLACE (ESTIMATES_IN_PLACE | SEARCHES_IN_PLACE)
 #define GRAYMAPS (P5_WRITE | P5_READ | P6_PLANES)
 #define INVERSES (INVERSE | INVERSE_WRAPPED | INVERSE_BANDED | INVERSE_WRAPPED_BANDED)
 #define MOST_MIXED 4
 #define MOST_BANDS 8192
 #define MOST_TURNS 1000
 
-/* UNBANDED: the library's plain call, beside banded ones; COPY: memcpy of the planes that a call is about */
-enum side { PLAIN, LIBRARY, UNBANDED, COPY, SIDES };
+/* OTHER: the library's other call, the plain one beside a banded call and the one with trial planes beside a call in
+   place; COPY: memcpy of the planes that a call is about */
+enum side { PLAIN, LIBRARY, OTHER, COPY, SIDES };
 
 typedef struct {
     double best[SIDES], last[SIDES];                /* in ms */
     double ratios[MOST_TURNS + MOST_MIXED];         /* library to plain C, by turn */
-    double to_plain[MOST_TURNS + MOST_MIXED];       /* banded to plain calls, by round of sets */
-    double banded, plain;                           /* the round's means so far */
+    double to_other[MOST_TURNS + MOST_MIXED];       /* the library's call to its other call, by round of sets */
+    double call, other;                             /* the round's means so far */
 } times;
 
 /* Filters of a case: place p of band i has number (i + p) modulo the count. One filter is the same everywhere. */
@@ -111,8 +121,8 @@ typedef struct {
     uint8_t filters[MOST_MIXED];
 } mix;
 extern const char *const call_names[CALLS], *const transform_names[TRANSFORMS];
-extern double worst_ratio[KINDS], worst_to_plain;   /* 0: none has run */
-extern int32_t *picture[3], *work[UNBANDED + 1][3];   /* sets of work planes; the sides change sets between turns */
+extern double worst_ratio[KINDS], worst_to_other[KINDS];   /* 0: none has run */
+extern int32_t *picture[3], *work[OTHER + 1][3];   /* sets of work planes; the sides change sets between turns */
 /* arguments of the library's calls */
 #define DEPTHS(s) (s)->depth, (s)->depth, (s)->depth   /* one for all planes */
 #define SETTING(s) (uint32_t)(s)->width, (uint32_t)(s)->height, DEPTHS(s), (s)->transform

@@ -1,7 +1,8 @@
 /* One case: the library and the plain C in turn on the same input, results equal each time. The times printed are
    the best of each; the ratio is the middle one of all turns' ratios, which a busy machine disturbs least. A banded
    call also stands beside the library's plain call: with the same filters or, where bands differ, with each set of
-   choices in turn, each time weighed by the rows that have the set. */
+   choices in turn, each time weighed by the rows that have the set. An estimate or a search in place also stands beside
+   the library's call with trial planes. */
 #define _POSIX_C_SOURCE 200809L
 #include "bench.h"
 #include "rulantip.h"
@@ -14,16 +15,17 @@
 const char *const call_names[CALLS] = {
     "forward", "inverse", "forward_wrapped", "inverse_wrapped",
     "forward_banded", "inverse_banded", "forward_wrapped_banded", "inverse_wrapped_banded", "estimate", "search",
-    "p5_write", "p5_read", "p6_planes"
+    "estimate_in_place", "search_in_place", "p5_write", "p5_read", "p6_planes"
 };
 const char *const transform_names[TRANSFORMS] = {"RCT", "YCoCg-R", "RDgDb", "LDgEb"};
-double worst_ratio[KINDS], worst_to_plain;
+double worst_ratio[KINDS], worst_to_other[KINDS];
 
-int32_t *picture[3], *work[UNBANDED + 1][3];
-static uint32_t *counters[2];
+int32_t *picture[3], *work[OTHER + 1][3];
+static uint32_t *counters[OTHER + 1];
 
-/* The sides of a case that runs a transform. */
+/* The sides of a case. */
 typedef struct {
+    enum kind kind;
     const setting *s;
     const uint8_t *choices;   /* set after set from the top band */
     uint32_t sets;            /* different ones; they come again below */
@@ -78,8 +80,8 @@ void allocate(size_t widest_square, uint32_t sets_of_planes)
         for (uint32_t set = 0; set < sets_of_planes; set++)
             work[set][i] = touched(bytes, i);
     }
-    counters[0] = touched(4 * RULANTIP_COUNTERS_MAX, 0);
-    counters[1] = touched(4 * RULANTIP_COUNTERS_MAX, 0);
+    for (uint32_t set = 0; set < sets_of_planes; set++)
+        counters[set] = touched(4 * RULANTIP_COUNTERS_MAX, 0);
 }
 
 /* Slopes, alike in all planes, and noise of each plane's own. */
@@ -157,23 +159,28 @@ static void time_side(enum side side, int back, const contest *c, uint32_t turn,
 {
     setting whole = *c->s;
     whole.band_height = 0;
-    if (side == UNBANDED)
+    if (side == OTHER)
         time_transform(side, back, &whole, c->choices + turn % c->sets * places_of(whole.transform), p, t);
     else
         time_transform(side, back, c->s, c->choices, p, t);
 }
 
+/* A side's set of planes and counters. */
+static uint32_t set_of(enum side side, const contest *c, uint32_t turn) { return (side + turn / c->sides) % c->sides; }
+
 static int32_t *const *planes_of(enum side side, const contest *c, uint32_t turn)
 {
-    return work[(side + turn / c->sides) % c->sides];
+    return work[set_of(side, c, turn)];
 }
+
+static int has_other(const contest *c) { return c->sides > OTHER; }
 
 /* Are they what the plain C made? With one set of choices for all bands the plain call makes it too. */
 static int same_forward(const contest *c, uint32_t turn)
 {
     int32_t *const *made = planes_of(PLAIN, c, turn);
     return same_planes(c->s, planes_of(LIBRARY, c, turn), made) &&
-           (c->sides <= UNBANDED || c->sets > 1 || same_planes(c->s, planes_of(UNBANDED, c, turn), made));
+           (!has_other(c) || c->sets > 1 || same_planes(c->s, planes_of(OTHER, c, turn), made));
 }
 
 /* Every order comes in turn. Over 4 turns of two sides, or 18 of three, each side has come as often at each place of the
@@ -201,7 +208,7 @@ static void turn_transform(uint32_t turn, const contest *c, times t[2])
     expect(same_forward(c, turn), "forward", c->s);
     for (uint32_t i = 0; i < c->sides; i++) {
         enum side side = side_at(i, c, turn);
-        if (c->sides > UNBANDED)
+        if (has_other(c))
             read_planes(c->s, planes_of(side, c, turn));
         time_side(side, 1, c, turn, planes_of(side, c, turn), &t[1]);
     }
@@ -220,53 +227,93 @@ static double share_of(const contest *c, uint32_t set)
 }
 
 /* A round is one turn for each set. */
-static void keep_to_plain(times *t, const contest *c, uint32_t turn)
+static void keep_to_other(times *t, const contest *c, uint32_t turn)
 {
-    t->banded += t->last[LIBRARY] / c->sets;
-    t->plain += t->last[UNBANDED] * share_of(c, turn % c->sets);
+    t->call += t->last[LIBRARY] / c->sets;
+    t->other += t->last[OTHER] * share_of(c, turn % c->sets);
     if (turn % c->sets + 1 < c->sets)
         return;
-    t->to_plain[turn / c->sets] = t->banded / t->plain;
-    t->banded = t->plain = 0;
+    t->to_other[turn / c->sets] = t->call / t->other;
+    t->call = t->other = 0;
 }
 
-static estimated time_search(int library, uint32_t rounds, const setting *s, uint8_t *c, uint32_t set, times *t)
+static int is_transform(enum kind kind) { return kind <= WRAPPED_BANDED; }
+static int is_in_place(enum kind kind) { return kind == ESTIMATE_IN_PLACE || kind == SEARCH_IN_PLACE; }
+static int is_search(enum kind kind) { return kind == SEARCH || kind == SEARCH_IN_PLACE; }
+
+/* Does the side hold the picture in its planes? Else they are trial planes. */
+static int works_in_place(enum side side, const contest *c) { return is_in_place(c->kind) && side != OTHER; }
+
+static estimated call_plain_c_search(const contest *c, uint8_t *choices, int32_t *const p[3], uint32_t *k)
 {
-    size_t places = places_of(s->transform), needed = rulantip_counters(DEPTHS(s), s->transform);
-    int32_t *const *p = work[set];
-    uint32_t *k = counters[set];
-    rulantip_estimated e;
-    estimated answer;
-    double since = now();
-    if (!library) {
-        answer = rounds ? plain_search(s, rounds, c, picture, p, k) : plain_estimate(s, c, picture, p, k);
-        keep(t, PLAIN, since);
-        return answer;
+    const setting *s = c->s;
+    switch (c->kind) {
+    case SEARCH: return plain_search(s, ROUNDS, choices, picture, p, k);
+    case SEARCH_IN_PLACE: return plain_search_in_place(s, ROUNDS, choices, p, k);
+    case ESTIMATE_IN_PLACE: return plain_estimate_in_place(s, choices, p, k);
+    default: return plain_estimate(s, choices, picture, p, k);
     }
-    if (rounds)
-        e = rulantip_search(SETTING(s), rounds, c, places, PLANES(s, picture), PLANES(s, p), k, needed);
+}
+
+static estimated call_library_search(int in_place, const contest *c, uint8_t *choices, int32_t *const p[3],
+                                     uint32_t *k)
+{
+    const setting *s = c->s;
+    size_t places = places_of(s->transform), needed = rulantip_counters(DEPTHS(s), s->transform);
+    rulantip_estimated e;
+    if (in_place && is_search(c->kind))
+        e = rulantip_search_in_place(SETTING(s), ROUNDS, choices, places, PLANES(s, p), k, needed);
+    else if (in_place)
+        e = rulantip_estimate_in_place(SETTING(s), choices, places, PLANES(s, p), k, needed);
+    else if (is_search(c->kind))
+        e = rulantip_search(SETTING(s), ROUNDS, choices, places, PLANES(s, picture), PLANES(s, p), k, needed);
     else
-        e = rulantip_estimate(SETTING(s), c, places, PLANES(s, picture), PLANES(s, p), k, needed);
-    keep(t, LIBRARY, since);
+        e = rulantip_estimate(SETTING(s), choices, places, PLANES(s, picture), PLANES(s, p), k, needed);
     return (estimated){e.refusal, e.estimate, e.samples};
 }
 
-/* The search, or with no rounds the estimate, each side once. */
-static void turn_search(uint32_t turn, uint32_t rounds, const setting *s, const uint8_t *given, times *t)
+static estimated time_search(enum side side, const contest *c, uint8_t *choices, uint32_t set, times *t)
 {
-    uint32_t library = turn & 1, set = turn >> 1 & 1;
-    uint8_t choices[2][MOST_PLACES];
-    estimated e[2];
-    copy_picture(s, work[set], t);
-    for (uint32_t i = 0; i < 2; i++) {
-        memcpy(choices[i], given, MOST_PLACES);
-        e[i] = time_search(i == library, rounds, s, choices[i], i ^ set, t);
+    double since = now();
+    estimated e = side == PLAIN ? call_plain_c_search(c, choices, work[set], counters[set])
+                                : call_library_search(works_in_place(side, c), c, choices, work[set], counters[set]);
+    keep(t, side, since);
+    return e;
+}
+
+/* In place the planes hold the picture again; trial planes are zero, and so are the counters. */
+static void expect_left(enum side side, const contest *c, uint32_t set)
+{
+    const setting *s = c->s;
+    int32_t *const *p = work[set];
+    size_t count = s->width * s->height;
+    if (works_in_place(side, c))
+        expect(same_planes(s, p, picture), "a plane after a call in place", s);
+    else
+        expect(are_samples(p[0], count, 0) && are_samples(p[1], count, 0) && are_samples(p[2], count, 0),
+               "a trial plane", s);
+    for (uint32_t i = 0; i < rulantip_counters(DEPTHS(s), s->transform); i++)
+        expect(counters[set][i] == 0, "a counter", s);
+}
+
+/* The search or the estimate, each side once. The planes of each begin as the picture, also where they are trial
+   planes: so all are equally near to the processor. */
+static void turn_search(uint32_t turn, const contest *c, times *t)
+{
+    uint8_t choices[OTHER + 1][MOST_PLACES];
+    estimated e[OTHER + 1];
+    for (uint32_t i = 0; i < c->sides; i++) {
+        enum side side = side_at(i, c, turn);
+        memcpy(choices[side], c->choices, MOST_PLACES);
+        copy_picture(c->s, planes_of(side, c, turn), t);
+        e[side] = time_search(side, c, choices[side], set_of(side, c, turn), t);
     }
-    expect(e[0].refusal == 0 && e[1].refusal == 0, "the answer", s);
-    expect(e[0].estimate == e[1].estimate && e[0].samples == e[1].samples, "the estimate", s);
-    expect(!memcmp(choices[0], choices[1], MOST_PLACES), "a choice", s);
-    expect(same_planes(s, work[0], work[1]), "a trial plane", s);
-    expect(!memcmp(counters[0], counters[1], 4 * rulantip_counters(DEPTHS(s), s->transform)), "a counter", s);
+    for (enum side side = PLAIN; side < c->sides; side++) {
+        expect(e[side].refusal == 0, "the answer", c->s);
+        expect(e[side].estimate == e[PLAIN].estimate && e[side].samples == e[PLAIN].samples, "the estimate", c->s);
+        expect(!memcmp(choices[side], choices[PLAIN], MOST_PLACES), "a choice", c->s);
+        expect_left(side, c, set_of(side, c, turn));
+    }
 }
 
 static double worse(double a, double b) { return a > b ? a : b; }
@@ -281,26 +328,22 @@ void print_times(enum kind kind, const char *call, const char *name, const setti
            t->best[LIBRARY], t->best[PLAIN], ratio, t->best[LIBRARY] / t->best[COPY]);
 }
 
-static void print_case(enum kind kind, const char *call, const contest *c, const char *filters, times *t,
-                       uint32_t turns)
+static void print_case(const char *call, const contest *c, const char *filters, times *t, uint32_t turns)
 {
-    const setting *s = c->s;
-    double to_plain = s->band_height ? middle(t->to_plain, turns / c->sets) : 0;
-    worst_to_plain = worse(worst_to_plain, to_plain);
-    print_times(kind, call, transform_names[s->transform], s, filters, t, turns);
-    if (s->band_height) printf(" %8.2f\n", to_plain);
+    double to_other = has_other(c) ? middle(t->to_other, turns / c->sets) : 0;
+    worst_to_other[c->kind] = worse(worst_to_other[c->kind], to_other);
+    print_times(c->kind, call, transform_names[c->s->transform], c->s, filters, t, turns);
+    if (has_other(c)) printf(" %8.2f\n", to_other);
     else printf(" %8s\n", "-");
     fflush(stdout);
 }
 
-static int is_transform(enum kind kind) { return kind != ESTIMATE && kind != SEARCH; }
-
 /* Three sides need more turns than two, and each set of choices needs some. */
-static int enough(enum kind kind, const contest *c, uint32_t turn, double spent)
+static int enough(const contest *c, uint32_t turn, double spent)
 {
     if (turn >= MOST_TURNS) return 1;
-    if (kind == SEARCH) return turn >= 2 && spent > 1000;
-    if (c->s->band_height) return turn >= 18 && turn >= 9 * c->sets && spent > 300;
+    if (is_search(c->kind)) return turn >= (has_other(c) ? 6 : 2) && spent > 1000;
+    if (has_other(c)) return turn >= 18 && turn >= 9 * c->sets && spent > 300;
     return turn >= 8 && spent > 300;
 }
 
@@ -317,14 +360,19 @@ static uint32_t sets_of(const setting *s, const mix *m)
     return bands_of(s) < m->count ? (uint32_t)bands_of(s) : m->count;
 }
 
-static void run_turn(enum kind kind, uint32_t turn, const contest *c, times t[2])
+static void one_turn(uint32_t turn, const contest *c, times t[2])
 {
-    if (is_transform(kind)) turn_transform(turn, c, t);
-    else turn_search(turn, kind == SEARCH ? ROUNDS : 0, c->s, c->choices, t);
-    for (uint32_t i = 0; i < (is_transform(kind) ? 2 : 1); i++) {
+    if (is_transform(c->kind)) turn_transform(turn, c, t);
+    else turn_search(turn, c, t);
+}
+
+static void run_turn(uint32_t turn, const contest *c, times t[2])
+{
+    one_turn(turn, c, t);
+    for (uint32_t i = 0; i < (is_transform(c->kind) ? 2 : 1); i++) {
         t[i].ratios[turn] = t[i].last[LIBRARY] / t[i].last[PLAIN];
-        if (c->s->band_height)
-            keep_to_plain(&t[i], c, turn);
+        if (has_other(c))
+            keep_to_other(&t[i], c, turn);
     }
 }
 
@@ -332,16 +380,17 @@ void run_case(enum kind kind, const setting *s, const mix *m, uint32_t calls, ui
 {
     static times t[2];   /* forward and inverse; the estimate and the search have the first */
     static uint8_t choices[MOST_BANDS * MOST_PLACES];
-    contest c = {s, choices, sets_of(s, m), s->band_height ? UNBANDED + 1 : LIBRARY + 1};
+    uint32_t sides = s->band_height || is_in_place(kind) ? OTHER + 1 : LIBRARY + 1;
+    contest c = {kind, s, choices, sets_of(s, m), sides};
     uint32_t turn;
     fill_choices(s, m, choices);
-    if (s->band_height)
-        turn_transform(0, &c, t);   /* results are compared before anything is timed */
+    if (has_other(&c))
+        one_turn(0, &c, t);   /* results are compared before anything is timed */
     memset(t, 0, sizeof t);
     double since = now();
-    for (turn = 0; turn % c.sets || (turns ? turn < turns : !enough(kind, &c, turn, now() - since)); turn++)
-        run_turn(kind, turn, &c, t);
+    for (turn = 0; turn % c.sets || (turns ? turn < turns : !enough(&c, turn, now() - since)); turn++)
+        run_turn(turn, &c, t);
     for (uint32_t i = 0; i < CALLS; i++)
         if (calls & 1u << i)
-            print_case(kind, call_names[i], &c, m->name, &t[INVERSES >> i & 1], turn);
+            print_case(call_names[i], &c, m->name, &t[INVERSES >> i & 1], turn);
 }

@@ -30,8 +30,10 @@ static const struct {
 static void usage(void)
 {
     fputs("options, with their defaults; lists have commas:\n"
-          "  -c forward,inverse,forward_wrapped,inverse_wrapped,banded,estimate,search,graymaps\n"
+          "  -c forward,inverse,forward_wrapped,inverse_wrapped,banded,estimate,search,in_place,graymaps\n"
           "                   banded is forward_banded,inverse_banded,forward_wrapped_banded,inverse_wrapped_banded;\n"
+          "                   in_place is estimate_in_place,search_in_place; column \"to other\" has a banded call's\n"
+          "                   ratio to the plain one, and that of a call in place to the one with trial planes;\n"
           "                   graymaps is p5_write,p5_read,p6_planes, with depths and planes of their own\n"
           "  -t 0,1,2,3       transforms\n"
           "  -f 0,1,5,11,12   filters, each at all places; banded calls also with filters that differ: place p of\n"
@@ -41,7 +43,7 @@ static void usage(void)
           "  -b 64            rows of a band, 1 to 8192; in lower pictures all rows\n"
           "  -r 0             runs of each side; 0: by the time they take\n"
           "  -a               depths 8,16; sizes 512,1024,2048,4096 (banded, estimate,\n"
-          "                   search and graymaps: 512,2048)\n",
+          "                   search, in_place and graymaps: 512,2048)\n",
           stderr);
     exit(2);
 }
@@ -66,6 +68,8 @@ static uint32_t call_named(const char *word)
 {
     if (!strcmp(word, "banded"))
         return ALL_BANDED;
+    if (!strcmp(word, "in_place"))
+        return IN_PLACE;
     if (!strcmp(word, "graymaps"))
         return GRAYMAPS;
     for (uint32_t i = 0; i < CALLS; i++)
@@ -102,9 +106,25 @@ static void run_forms(const setting *s, int banded, const mix *m, uint32_t band_
         }
 }
 
-static void run_setting(const setting *s, const numbers *filters, uint32_t band_height, uint32_t calls, uint32_t turns)
+/* The estimates under each filter, then the searches. */
+static void run_searches(const setting *s, const numbers *filters, uint32_t calls, uint32_t turns)
 {
     static const mix none = {"-", 1, {0}};
+    for (int in_place = 0; in_place < 2; in_place++)
+        for (uint32_t i = 0; i < filters->count; i++) {
+            mix m = same_everywhere(filters->list[i]);
+            uint32_t call = calls & (in_place ? ESTIMATES_IN_PLACE : ESTIMATES);
+            if (call)
+                run_case(in_place ? ESTIMATE_IN_PLACE : ESTIMATE, s, &m, call, turns);
+        }
+    if (calls & SEARCHES)
+        run_case(SEARCH, s, &none, SEARCHES, turns);
+    if (calls & SEARCHES_IN_PLACE)
+        run_case(SEARCH_IN_PLACE, s, &none, SEARCHES_IN_PLACE, turns);
+}
+
+static void run_setting(const setting *s, const numbers *filters, uint32_t band_height, uint32_t calls, uint32_t turns)
+{
     for (int banded = 0; banded < 2; banded++)
         for (uint32_t i = 0; i < filters->count; i++) {
             mix m = same_everywhere(filters->list[i]);
@@ -112,25 +132,26 @@ static void run_setting(const setting *s, const numbers *filters, uint32_t band_
         }
     for (size_t i = 0; i < COUNT(mixes); i++)
         run_forms(s, 1, &mixes[i], band_height, calls, turns);
-    for (uint32_t i = 0; i < filters->count; i++) {
-        mix m = same_everywhere(filters->list[i]);
-        if (calls & ESTIMATES)
-            run_case(ESTIMATE, s, &m, ESTIMATES, turns);
-    }
-    if (calls & SEARCHES)
-        run_case(SEARCH, s, &none, SEARCHES, turns);
+    run_searches(s, filters, calls, turns);
 }
+
+static const char *const kind_names[KINDS] = {
+    "transforms", "wrapped", "banded", "wrapped_banded", "estimates", "searches", "estimates_in_place",
+    "searches_in_place", "graymaps", "pixmaps"
+};
 
 static void print_worst(void)
 {
-    static const char *const names[KINDS] = {
-        "transforms", "wrapped", "banded", "wrapped_banded", "estimates", "searches", "graymaps", "pixmaps"
-    };
     fputs("worst ratio:", stdout);
     for (uint32_t i = 0; i < KINDS; i++)
-        if (worst_ratio[i] > 0) printf(" %s %.2f", names[i], worst_ratio[i]);
-        else printf(" %s -", names[i]);
-    if (worst_to_plain > 0) printf("; banded to plain %.2f", worst_to_plain);
+        if (worst_ratio[i] > 0) printf(" %s %.2f", kind_names[i], worst_ratio[i]);
+        else printf(" %s -", kind_names[i]);
+    const char *before = "; to other:";
+    for (uint32_t i = 0; i < KINDS; i++)
+        if (worst_to_other[i] > 0) {
+            printf("%s %s %.2f", before, kind_names[i], worst_to_other[i]);
+            before = "";
+        }
     puts("");
 }
 
@@ -142,7 +163,7 @@ typedef struct {
 
 static options read_options(int argc, char **argv)
 {
-    uint32_t calls = PLAIN_FORMS | WRAPPED_FORMS | ALL_BANDED | ESTIMATES | SEARCHES | GRAYMAPS;
+    uint32_t calls = PLAIN_FORMS | WRAPPED_FORMS | ALL_BANDED | ESTIMATES | SEARCHES | IN_PLACE | GRAYMAPS;
     options o = {{{0, 1, 2, 3}, 4}, {{0, 1, 5, 11, 12}, 5}, {{8}, 1}, {{512, 2048}, 2}, calls, 0, 64, 0};
     int letter;
     while ((letter = getopt(argc, argv, "c:t:f:d:s:b:r:ah")) != -1)
@@ -185,12 +206,12 @@ int main(int argc, char **argv)
     uint32_t most = 0;
     for (uint32_t i = 0; i < o.sizes.count; i++)
         most = o.sizes.list[i] > most ? o.sizes.list[i] : most;
-    allocate(most, o.calls & ALL_BANDED ? 3 : 2);
+    allocate(most, o.calls & (ALL_BANDED | IN_PLACE) ? OTHER + 1 : LIBRARY + 1);
     if (o.calls & GRAYMAPS)
         allocate_files(most);
     fill_logarithms();
     printf("%-31s %5s %5s %6s %11s %11s %6s %9s %8s\n", "call", "size", "depth", "filter", "library ms", "C ms",
-           "ratio", "to memcpy", "to plain");
+           "ratio", "to memcpy", "to other");
     for (uint32_t i = 0; i < o.sizes.count; i++)
         run_size(&o, o.sizes.list[i]);
     print_worst();

@@ -100,14 +100,22 @@ static uint32_t estimate_planes(const setting *s, uint32_t step, int changed, in
     return sum;
 }
 
-/* Tests the samples; then the trial planes hold the picture and the counters are zero. */
-static int begin(const setting *s, int32_t *const planes[3], int32_t *const trial[3], uint32_t *counters)
+/* Tests the samples; then the counters are zero. */
+static int begin(const setting *s, int32_t *const planes[3], uint32_t *counters)
 {
     if (!is_picture(s, planes))
         return 0;
+    memset(counters, 0, 4 * counters_of(s->depth, s->transform));
+    return 1;
+}
+
+/* The same; then the trial planes hold the picture. */
+static int begin_trial(const setting *s, int32_t *const planes[3], int32_t *const trial[3], uint32_t *counters)
+{
+    if (!begin(s, planes, counters))
+        return 0;
     for (uint32_t i = 0; i < 3; i++)
         memcpy(trial[i], planes[i], 4 * s->width * s->height);
-    memset(counters, 0, 4 * counters_of(s->depth, s->transform));
     return 1;
 }
 
@@ -117,56 +125,98 @@ static void clear(const setting *s, int32_t *const trial[3])
         memset(trial[i], 0, 4 * s->width * s->height);
 }
 
+/* The estimate of a picture under choices. The planes are left with all steps run. */
+static estimated estimate_choices(const setting *s, const uint8_t *choices, int32_t *const planes[3],
+                                  uint32_t *counters)
+{
+    estimated answer = {0, 0, 0};
+    run_steps(s, choices, planes, 0, steps_of(s->transform));
+    for (uint32_t i = 0; i < 3; i++)
+        answer.estimate += estimate_plane(s, planes[i], counters, &answer.samples);
+    return answer;
+}
+
+/* The same. The planes are left as they were. */
+static estimated estimate_and_undo(const setting *s, const uint8_t *choices, int32_t *const planes[3],
+                                   uint32_t *counters)
+{
+    estimated answer = estimate_choices(s, choices, planes, counters);
+    undo_steps(s, choices, planes, 0, steps_of(s->transform));
+    return answer;
+}
+
 estimated plain_estimate(const setting *s, const uint8_t *choices, int32_t *const planes[3], int32_t *const trial[3],
                          uint32_t *counters)
 {
-    estimated answer = {0, 0, 0};
-    if (!begin(s, planes, trial, counters))
+    if (!begin_trial(s, planes, trial, counters))
         return (estimated){11, 0, 0};
-    run_steps(s, choices, trial, 0, steps_of(s->transform));
-    for (uint32_t i = 0; i < 3; i++)
-        answer.estimate += estimate_plane(s, trial[i], counters, &answer.samples);
+    estimated answer = estimate_choices(s, choices, trial, counters);
     clear(s, trial);
     return answer;
 }
 
-/* Tries all filters at a place. The trial planes stand before the place's step, on entry and at the end. */
-static void search_place(const setting *s, uint32_t place, uint8_t *choices, int32_t *const trial[3],
+estimated plain_estimate_in_place(const setting *s, const uint8_t *choices, int32_t *const planes[3],
+                                  uint32_t *counters)
+{
+    if (!begin(s, planes, counters))
+        return (estimated){11, 0, 0};
+    return estimate_and_undo(s, choices, planes, counters);
+}
+
+/* Tries all filters at a place but the present one, whose estimate is the answer so far. The planes stand before the
+   place's step, on entry and at the end. */
+static void search_place(const setting *s, uint32_t place, uint8_t *choices, int32_t *const planes[3],
                          uint32_t *counters, estimated *answer)
 {
-    uint32_t step = step_of_place(s->transform, place), end = steps_of(s->transform), estimates[FILTERS];
-    uint32_t finished = estimate_planes(s, step, 0, trial, counters, &answer->samples);
-    uint8_t winner = choices[place];
+    uint32_t step = step_of_place(s->transform, place), end = steps_of(s->transform);
+    uint32_t finished = estimate_planes(s, step, 0, planes, counters, &answer->samples);
+    uint8_t present = choices[place], winner = present;
     for (uint8_t f = 0; f < FILTERS; f++) {
+        if (f == present)
+            continue;
         choices[place] = f;
-        run_steps(s, choices, trial, step, end);
-        estimates[f] = finished + estimate_planes(s, step, 1, trial, counters, &answer->samples);
-        undo_steps(s, choices, trial, step, end);
+        run_steps(s, choices, planes, step, end);
+        uint32_t estimate = finished + estimate_planes(s, step, 1, planes, counters, &answer->samples);
+        undo_steps(s, choices, planes, step, end);
+        if (estimate < answer->estimate)
+            winner = f, answer->estimate = estimate;
     }
-    for (uint8_t f = 0; f < FILTERS; f++)
-        if (estimates[f] < estimates[winner])
-            winner = f;
     choices[place] = winner;
-    answer->estimate = estimates[winner];
+}
+
+/* The search of a picture, with counters that are zero. The planes are left as they were. */
+static estimated search_choices(const setting *s, uint32_t rounds, uint8_t *choices, int32_t *const planes[3],
+                                uint32_t *counters)
+{
+    memset(choices, 0, places_of(s->transform));
+    estimated answer = estimate_and_undo(s, choices, planes, counters);
+    for (uint32_t round = 0; round < rounds; round++) {
+        uint32_t at = 0;   /* the step that the planes stand before */
+        for (uint32_t place = 0; place < places_of(s->transform); place++) {
+            uint32_t step = step_of_place(s->transform, place);
+            run_steps(s, choices, planes, at, step);
+            at = step;
+            search_place(s, place, choices, planes, counters, &answer);
+        }
+        undo_steps(s, choices, planes, 0, at);
+    }
+    return answer;
 }
 
 estimated plain_search(const setting *s, uint32_t rounds, uint8_t *choices, int32_t *const planes[3],
                        int32_t *const trial[3], uint32_t *counters)
 {
-    estimated answer = {0, 0, 0};
-    if (!begin(s, planes, trial, counters))
+    if (!begin_trial(s, planes, trial, counters))
         return (estimated){11, 0, 0};
-    memset(choices, 0, places_of(s->transform));
-    for (uint32_t round = 0; round < rounds; round++) {
-        uint32_t at = 0;   /* the step that the trial planes stand before */
-        for (uint32_t place = 0; place < places_of(s->transform); place++) {
-            uint32_t step = step_of_place(s->transform, place);
-            run_steps(s, choices, trial, at, step);
-            at = step;
-            search_place(s, place, choices, trial, counters, &answer);
-        }
-        undo_steps(s, choices, trial, 0, at);
-    }
+    estimated answer = search_choices(s, rounds, choices, trial, counters);
     clear(s, trial);
     return answer;
+}
+
+estimated plain_search_in_place(const setting *s, uint32_t rounds, uint8_t *choices, int32_t *const planes[3],
+                                uint32_t *counters)
+{
+    if (!begin(s, planes, counters))
+        return (estimated){11, 0, 0};
+    return search_choices(s, rounds, choices, planes, counters);
 }

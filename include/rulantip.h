@@ -118,7 +118,8 @@ extern "C" {
 #define RULANTIP_REFUSED_CHOICES 7       /* not one choice for each place, with bands not one for each place
                                             of each band, or a choice above 12 */
 #define RULANTIP_REFUSED_PLANE 8         /* a plane's length is not width * height */
-#define RULANTIP_REFUSED_SCRATCH 9       /* a trial plane below width * height numbers, or too few counters */
+#define RULANTIP_REFUSED_SCRATCH 9       /* too few counters; with trial planes, also one of these below
+                                            width * height numbers */
 #define RULANTIP_REFUSED_ROUNDS 10       /* rounds outside 1 to 4 */
 #define RULANTIP_REFUSED_WIDE 13         /* the plane's maxval, highest number less lowest, is above 65,535 */
 #define RULANTIP_REFUSED_BUFFER 14       /* the buffer is shorter than the file */
@@ -159,15 +160,32 @@ extern "C" {
      LDgEb          6 * H - 3    12 * H - 5      1,531    393,211
 
    What the scratch holds on entry does not matter; after success all of it is 0, also what was lent
-   beyond the need. */
+   beyond the need.
+
+   IN PLACE, rulantip_estimate_in_place and rulantip_search_in_place are lent counters alone. They make
+   their trials on the picture's own planes and undo what they did: when they return, the planes are as
+   lent, after success and after a refusal. Estimate, N and filters are the same as with trial planes,
+   for every picture. A search takes as long; an estimate undoes its steps, where the other call copies
+   the picture and clears the copy, and so takes longer with filters 1 to 11 and less with 0 and 12.
+   Memory for the planes that a call needs, the counters' at most 1.8 MiB beside it:
+
+                          with trial planes   in place
+     4,096 by 4,096           384 MiB          192 MiB
+     8,192 by 8,192         1,536 MiB          768 MiB
+
+   On a target with 512 MiB take the calls in place: a square of 4,096 leaves 320 MiB for what else is
+   there. Take those with trial planes where others read the picture meanwhile, or where it must survive a
+   program that is stopped in the middle of a call, as planes mapped from a file must: in place they hold
+   other numbers until the call returns. */
 
 /* Counters that are enough for every transform where no depth is above `deepest`, 2 to 16; and at any
    depths. */
 #define RULANTIP_COUNTERS(deepest) (((size_t)14 << ((deepest) - 1)) - 7)
 #define RULANTIP_COUNTERS_MAX 458745
 
-/* How many counters rulantip_estimate and rulantip_search need, 2 * D + 1; or 0 where they would
-   refuse a depth with 5 or the transform with 6. It tests nothing else, and no memory is lent. */
+/* How many counters the estimate and the search need, with trial planes and in place, 2 * D + 1; or 0
+   where they would refuse a depth with 5 or the transform with 6. It tests nothing else, and no memory is
+   lent. */
 uint32_t rulantip_counters(
     uint32_t depth1,        /* of plane 1, R, 2 to 16 */
     uint32_t depth2,        /* of plane 2, G, 2 to 16 */
@@ -398,6 +416,52 @@ rulantip_estimated rulantip_search(
     size_t t2_len,
     int32_t *t3,
     size_t t3_len,
+    uint32_t *counters,
+    size_t counters_len
+);
+
+/* As rulantip_estimate, in place, with no trial planes. Tests, in this order: 2, 5, 6, 7, 8, 9 (the
+   counters alone), 11. After success all counters are 0. The planes are changed while the call runs and
+   are as lent when it returns; the choices are never changed. */
+rulantip_estimated rulantip_estimate_in_place(
+    uint32_t width,         /* as in rulantip_forward */
+    uint32_t height,
+    uint32_t depth1,
+    uint32_t depth2,
+    uint32_t depth3,
+    uint32_t transform,
+    const uint8_t *choices, /* the filter of each place, 0 to 12 */
+    size_t choices_len,
+    int32_t *c1,            /* R, before and after */
+    size_t c1_len,          /* width * height */
+    int32_t *c2,            /* G, before and after */
+    size_t c2_len,          /* width * height */
+    int32_t *c3,            /* B, before and after */
+    size_t c3_len,          /* width * height */
+    uint32_t *counters,     /* scratch */
+    size_t counters_len     /* 2 * D + 1 or more; rulantip_counters tells it */
+);
+
+/* As rulantip_search, in place, with no trial planes. Tests, in this order: 2, 5, 6, 7 (the number of
+   choices alone), 8, 9 (the counters alone), 10, 11. After success the choices hold the filters found,
+   the answer is their estimate, and all counters are 0. The planes are changed while the call runs and
+   are as lent when it returns. */
+rulantip_estimated rulantip_search_in_place(
+    uint32_t width,         /* as in rulantip_forward */
+    uint32_t height,
+    uint32_t depth1,
+    uint32_t depth2,
+    uint32_t depth3,
+    uint32_t transform,
+    uint32_t rounds,        /* how often to go through the places, 1 to 4 */
+    uint8_t *choices,       /* receives the filter of each place */
+    size_t choices_len,     /* the number of the transform's places */
+    int32_t *c1,            /* from here on as in rulantip_estimate_in_place */
+    size_t c1_len,
+    int32_t *c2,
+    size_t c2_len,
+    int32_t *c3,
+    size_t c3_len,
     uint32_t *counters,
     size_t counters_len
 );

@@ -224,7 +224,7 @@ pub fn estimate(
             counters.as_mut_ptr(), counters.len(),
         )
     };
-    refusal(answer.refusal).map(|()| Estimated { estimate: answer.estimate, samples: answer.samples })
+    estimated(answer)
 }
 
 /// The search for the filters of the lowest estimate, which the choices hold after success.
@@ -249,7 +249,53 @@ pub fn search(
             counters.as_mut_ptr(), counters.len(),
         )
     };
-    refusal(answer.refusal).map(|()| Estimated { estimate: answer.estimate, samples: answer.samples })
+    estimated(answer)
+}
+
+/// As `estimate`, lent counters alone, which are 0 after success. The planes are changed while the call runs, and are as
+/// lent after it.
+pub fn estimate_in_place(
+    settings: Settings,
+    choices: &[u8],
+    planes: [&mut [i32]; 3],
+    counters: &mut [u32],
+) -> Result<Estimated, Refusal> {
+    let Settings { width, height, depths: [depth1, depth2, depth3], transform } = settings;
+    let [c1, c2, c3] = planes;
+    // SAFETY: every pointer and length is a slice's; what is written is lent as &mut.
+    #[rustfmt::skip]
+    let answer = unsafe {
+        c::rulantip_estimate_in_place(
+            width, height, depth1, depth2, depth3, transform,
+            choices.as_ptr(), choices.len(),
+            c1.as_mut_ptr(), c1.len(), c2.as_mut_ptr(), c2.len(), c3.as_mut_ptr(), c3.len(),
+            counters.as_mut_ptr(), counters.len(),
+        )
+    };
+    estimated(answer)
+}
+
+/// As `search`, lent counters and planes as `estimate_in_place`.
+pub fn search_in_place(
+    settings: Settings,
+    rounds: u32,
+    choices: &mut [u8],
+    planes: [&mut [i32]; 3],
+    counters: &mut [u32],
+) -> Result<Estimated, Refusal> {
+    let Settings { width, height, depths: [depth1, depth2, depth3], transform } = settings;
+    let [c1, c2, c3] = planes;
+    // SAFETY: every pointer and length is a slice's; what is written is lent as &mut.
+    #[rustfmt::skip]
+    let answer = unsafe {
+        c::rulantip_search_in_place(
+            width, height, depth1, depth2, depth3, transform, rounds,
+            choices.as_mut_ptr(), choices.len(),
+            c1.as_mut_ptr(), c1.len(), c2.as_mut_ptr(), c2.len(), c3.as_mut_ptr(), c3.len(),
+            counters.as_mut_ptr(), counters.len(),
+        )
+    };
+    estimated(answer)
 }
 
 /// The header of a P6 file and its raster.
@@ -321,6 +367,10 @@ fn refusal(number: u32) -> Result<(), Refusal> {
     }
     let refusal = Refusal::ALL.into_iter().find(|refusal| refusal.number() == number);
     Err(refusal.unwrap_or_else(|| panic!("{number} is no refusal")))
+}
+
+fn estimated(answer: c::RulantipEstimated) -> Result<Estimated, Refusal> {
+    refusal(answer.refusal).map(|()| Estimated { estimate: answer.estimate, samples: answer.samples })
 }
 
 fn in_place(call: c::InPlace, settings: Settings, choices: &[u8], planes: [&mut [i32]; 3]) -> Result<(), Refusal> {
@@ -480,6 +530,21 @@ pub mod c {
             choices: *mut u8, choices_len: usize,
             c1: *const i32, c1_len: usize, c2: *const i32, c2_len: usize, c3: *const i32, c3_len: usize,
             t1: *mut i32, t1_len: usize, t2: *mut i32, t2_len: usize, t3: *mut i32, t3_len: usize,
+            counters: *mut u32, counters_len: usize,
+        ) -> RulantipEstimated;
+
+        pub fn rulantip_estimate_in_place(
+            width: u32, height: u32, depth1: u32, depth2: u32, depth3: u32, transform: u32,
+            choices: *const u8, choices_len: usize,
+            c1: *mut i32, c1_len: usize, c2: *mut i32, c2_len: usize, c3: *mut i32, c3_len: usize,
+            counters: *mut u32, counters_len: usize,
+        ) -> RulantipEstimated;
+
+        pub fn rulantip_search_in_place(
+            width: u32, height: u32, depth1: u32, depth2: u32, depth3: u32, transform: u32,
+            rounds: u32,
+            choices: *mut u8, choices_len: usize,
+            c1: *mut i32, c1_len: usize, c2: *mut i32, c2_len: usize, c3: *mut i32, c3_len: usize,
             counters: *mut u32, counters_len: usize,
         ) -> RulantipEstimated;
 

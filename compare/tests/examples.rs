@@ -2,8 +2,9 @@
 //! reference. The header is also compiled as C++, and its macros and its table of ranges are tried.
 
 use compare::generator;
-use compare::reference::{all_depths, counters, forward, forward_wrapped, graymap_file, places, ranges, search};
-use compare::reference::{pixmap_header, pixmap_planes, sample_bytes, FinishedPlane, Scratch, Settings, NAMES};
+use compare::reference::{all_depths, counters, forward, forward_wrapped, graymap_file, places, ranges};
+use compare::reference::{pixmap_header, pixmap_planes, sample_bytes, search, search_in_place};
+use compare::reference::{Estimated, FinishedPlane, Found, Scratch, Settings, NAMES};
 use std::fmt::Write;
 use std::fs;
 use std::path::{Path, PathBuf};
@@ -54,6 +55,13 @@ fn picture(file: &[u8]) -> ([u32; 3], [Vec<i32>; 3]) {
     ([header.width, header.height, header.depth], pixmap_planes(file, [samples; 3]).unwrap())
 }
 
+/// What an example prints of a search.
+fn search_line(transform: &str, found: &Found) -> String {
+    let filters: Vec<String> = found.filters.iter().map(u8::to_string).collect();
+    let Estimated { estimate, samples } = found.estimated;
+    format!("{transform} {} {estimate} {samples}\n", filters.join(","))
+}
+
 /// What the example prints for a file with no fault.
 fn expected(file: &[u8]) -> String {
     let ([width, height, depth], planes) = picture(file);
@@ -65,9 +73,8 @@ fn expected(file: &[u8]) -> String {
         let settings = Settings { width, height, depths: [depth; 3], transform };
         let scratch = Scratch { trial: [samples; 3], counters: usize::MAX };
         let found = search(settings, 2, places(transform), planes, scratch).unwrap();
-        let filters: Vec<String> = found.filters.iter().map(u8::to_string).collect();
+        text += &search_line(name, &found);
         let estimate = found.estimated.estimate;
-        writeln!(text, "{name} {} {estimate} {}", filters.join(","), found.estimated.samples).unwrap();
         if best.as_ref().is_none_or(|(lowest, ..)| estimate < *lowest) {
             best = Some((estimate, settings, found.filters));
         }
@@ -151,16 +158,18 @@ fn example(name: &str) {
     refused(&program, &[&out.join("none.ppm")]);
 }
 
-/// The three files that `graymaps` writes, or the refusal of the first that it cannot write.
-fn graymaps(file: &[u8]) -> Result<[Vec<u8>; 3], u32> {
+/// What `graymaps` prints of a search, and the three files that it writes, or the refusal of the first that it cannot write.
+fn graymaps(file: &[u8]) -> Result<(String, [Vec<u8>; 3]), u32> {
     let ([width, height, depth], planes) = picture(file);
     let settings = Settings { width, height, depths: [depth; 3], transform: 2 };
-    let finished = forward(settings, None, &[1, 1], planes.each_ref().map(Vec::as_slice)).unwrap();
+    let planes = planes.each_ref().map(Vec::as_slice);
+    let found = search_in_place(settings, 2, 2, planes, usize::MAX).unwrap();
+    let finished = forward(settings, None, &found.filters, planes).unwrap();
     let file = |number: usize| {
         let of = FinishedPlane { depths: [depth; 3], transform: 2, plane: number as u32 };
         graymap_file(width, height, of, &finished[number - 1], usize::MAX)
     };
-    Ok([file(1)?, file(2)?, file(3)?])
+    Ok((search_line("RDgDb", &found), [file(1)?, file(2)?, file(3)?]))
 }
 
 #[test]
@@ -171,12 +180,11 @@ fn c_graymaps() {
     let names = [1, 2, 3].map(|number| out.join(format!("plane.{number}.pgm")));
     for file in files() {
         fs::write(&picture, &file).unwrap();
-        let Ok(expected) = graymaps(&file) else {
+        let Ok((mut text, expected)) = graymaps(&file) else {
             let said = refused(&program, &[&picture, &prefix]);
             assert!(said.contains("plane.2.pgm: refused 13, the plane's highest"), "{said}");
             continue;
         };
-        let mut text = String::new();
         for (name, file) in names.iter().zip(&expected) {
             writeln!(text, "{} has {} bytes", name.display(), file.len()).unwrap();
         }

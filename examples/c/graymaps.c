@@ -1,5 +1,6 @@
-/* Reads a P6 file, transforms the picture by RDgDb and writes each finished plane as a P5 file, PREFIX.1.pgm to
-   PREFIX.3.pgm; then reads the three files and brings the picture back from them. */
+/* Reads a P6 file, finds filters for RDgDb in place, transforms the picture and writes each finished plane as a P5 file,
+   PREFIX.1.pgm to PREFIX.3.pgm; then reads the three files and brings the picture back from them. It has memory for one
+   picture. */
 
 #include "common.h"
 #include "rulantip.h"
@@ -9,7 +10,23 @@
 #include <string.h>
 
 /* The filter of each place. */
-static const uint8_t choices[2] = {1, 1};
+static uint8_t choices[2];
+
+/* The best filters, found on the picture's own planes, which hold the picture again when the search returns. */
+static void find_filters(const rulantip_pixmap *picture, int32_t **planes, size_t samples)
+{
+    uint32_t depth = picture->depth;
+    size_t count = rulantip_counters(depth, depth, depth, RULANTIP_RDGDB);
+    uint32_t *counters = memory(count, sizeof *counters);
+    rulantip_estimated found =
+        rulantip_search_in_place(picture->width, picture->height, depth, depth, depth, RULANTIP_RDGDB, 2, choices, 2,
+                                 planes[0], samples, planes[1], samples, planes[2], samples, counters, count);
+
+    if (found.refusal != 0)
+        stop_refused("search", found.refusal);
+    printf("RDgDb %u,%u %u %u\n", choices[0], choices[1], (unsigned)found.estimate, (unsigned)found.samples);
+    free(counters);
+}
 
 /* Writes the plane to its file. */
 static void write_plane(const char *name, const rulantip_pixmap *picture, uint32_t plane, const int32_t *samples, size_t count)
@@ -83,6 +100,7 @@ int main(int argc, char **argv)
     if (refusal != 0)
         stop_refused(argv[1], refusal);
 
+    find_filters(&picture, planes, samples);
     refusal = rulantip_forward(picture.width, picture.height, depth, depth, depth, RULANTIP_RDGDB, choices, 2,
                                planes[0], samples, planes[1], samples, planes[2], samples);
     if (refusal != 0)

@@ -20,6 +20,13 @@ pub struct Scratch {
     pub counters: usize,
 }
 
+impl Scratch {
+    /// What is lent in place: "9 then concerns the counters alone", as no trial plane is short.
+    fn counters_alone(counters: usize) -> Scratch {
+        Scratch { trial: [usize::MAX; 3], counters }
+    }
+}
+
 /// An estimate in sixty-fourths of a bit, and the number of samples counted in a plane.
 #[derive(Clone, Copy, Debug, PartialEq, Eq)]
 pub struct Estimated {
@@ -225,6 +232,16 @@ pub fn estimate(
     Ok(settings.estimate(choices, &picture))
 }
 
+/// The estimate that is lent only counters; the planes are as lent after it. Refusals as in `estimate`.
+pub fn estimate_in_place(
+    settings: Settings,
+    choices: &[u8],
+    planes: [&[i32]; 3],
+    counters: usize,
+) -> Result<Estimated, RefusalNumber> {
+    estimate(settings, choices, planes, Scratch::counters_alone(counters))
+}
+
 /// The filters that the search finds; of the lent choices only their number matters.
 /// Refusals 2, 5, 6, 7, 8, 9, 10, 11.
 pub fn search(
@@ -260,4 +277,16 @@ pub fn search(
     }
     let estimated = settings.estimate(&filters, &picture);
     Ok(Found { filters, estimated })
+}
+
+/// The search that is lent only counters: "Filters, estimate and N equal those of the first search on every picture."
+/// The planes are as lent after it. Refusals as in `search`.
+pub fn search_in_place(
+    settings: Settings,
+    rounds: u32,
+    choices: usize,
+    planes: [&[i32]; 3],
+    counters: usize,
+) -> Result<Found, RefusalNumber> {
+    search(settings, rounds, choices, planes, Scratch::counters_alone(counters))
 }

@@ -148,6 +148,30 @@ fn refusals() {
     assert_eq!([-1, 0, 255, 256].map(|sample| call(1, 1, 8, sample)), [Some(11), None, None, Some(11)]);
 }
 
+/// Two pixels at depth 8 under RDgDb need 1,021 counters. In place 9 concerns them alone, and comes after 8 and before 10
+/// and 11.
+#[test]
+fn counters_alone() {
+    let settings = Settings { width: 2, transform: 2, ..DEPTH_8 };
+    let (planes, high) = ([&[10, 20][..], &[100, 101], &[7, 9]], [256; 2]);
+    let ample = Scratch { trial: [2; 3], counters: 1021 };
+    let first = search(settings, 2, 2, planes, ample);
+    assert!(first.is_ok());
+    assert_eq!(search_in_place(settings, 2, 2, planes, 1021), first);
+    assert_eq!(estimate_in_place(settings, &[1, 1], planes, 1021), estimate(settings, &[1, 1], planes, ample));
+    assert_eq!(search(settings, 2, 2, planes, Scratch { trial: [2, 2, 1], ..ample }), Err(9));
+    for (planes, rounds, counters, refusal) in [
+        ([planes[0], &[], planes[2]], 0, 1020, 8),
+        ([planes[0], &high, planes[2]], 0, 1020, 9),
+        ([planes[0], &high, planes[2]], 0, 1021, 10),
+        ([planes[0], &high, planes[2]], 4, 1021, 11),
+    ] {
+        assert_eq!(search_in_place(settings, rounds, 2, planes, counters), Err(refusal));
+        let estimated = estimate_in_place(settings, &[1, 1], planes, counters);
+        assert_eq!(estimated, Err(if refusal == 10 { 11 } else { refusal }));
+    }
+}
+
 #[test]
 fn example_report() {
     let text = "transform filters estimate samples\n\

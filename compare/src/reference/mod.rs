@@ -25,7 +25,8 @@ mod file_cases;
 #[cfg(test)]
 mod wrapped_cases;
 
-pub use calls::{estimate, forward, forward_wrapped, inverse, inverse_wrapped, search};
+pub use calls::{estimate, estimate_in_place, search, search_in_place};
+pub use calls::{forward, forward_wrapped, inverse, inverse_wrapped};
 pub use calls::{Answer, Call, Estimated, Found, Scratch, Settings};
 pub use entropy::{counted_indices, logarithm, med, plane_estimate, residual};
 pub use filter::{filtered_at, window};

@@ -49,7 +49,7 @@ fn header_is_as_the_rust_module() {
     let header = c_header(&text("include/rulantip.h")).unwrap();
     let module = rust_module(&text("compare/src/library.rs")).unwrap();
     assert_eq!(header.differs(&module), None);
-    assert_eq!(header.functions.len(), 15);
+    assert_eq!(header.functions.len(), 17);
     assert_eq!(header.structs.len(), 4);
 }
 

@@ -60,9 +60,9 @@ fn counters_told_are_needed() {
         let mut case = unequal(random, origin);
         let Settings { depths, transform, .. } = case.settings;
         case.counters = vec![9; library::counters(depths, transform).unwrap()];
-        assert_eq!((case.estimate().refusal, case.search().0.refusal), (0, 0), "{case}");
+        assert_eq!((case.both_estimates().refusal, case.both_searches().0.refusal), (0, 0), "{case}");
         case.counters.pop();
-        assert_eq!((case.estimate().refusal, case.search().0.refusal), (9, 9), "{case}");
+        assert_eq!((case.both_estimates().refusal, case.both_searches().0.refusal), (9, 9), "{case}");
     });
 }
 
@@ -77,9 +77,9 @@ fn samples_just_past_their_depth() {
                 let mut case = case.clone();
                 case.planes[plane][index] = sample as i32;
                 assert_eq!(case.forward().0, number, "{case}");
-                assert_eq!(case.estimate().refusal, number, "{case}");
+                assert_eq!(case.both_estimates().refusal, number, "{case}");
                 if number == 11 {
-                    assert_eq!(case.search().0.refusal, 11, "{case}");
+                    assert_eq!(case.both_searches().0.refusal, 11, "{case}");
                 }
             }
         }

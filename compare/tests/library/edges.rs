@@ -4,6 +4,7 @@
 use crate::graymaps;
 use crate::library::{self, FinishedPlane, Refusal, Scratch, Settings};
 use crate::random::{self, each_round, Random};
+use crate::same::Case;
 use compare::reference;
 use std::ffi::c_void;
 use std::marker::PhantomData;
@@ -88,15 +89,34 @@ fn calls(random: &mut Random, at_end: bool, origin: &str) {
     for (plane, entry) in picture.iter_mut().zip(&case.planes) {
         assert_eq!(plane.slice(), entry, "{case}");
     }
+    estimates(&case, settings, at_end);
+}
+
+/// The estimate and, of a small picture, the search, with trial planes and in place; scratch is exactly enough.
+fn estimates(case: &Case, settings: Settings, at_end: bool) {
+    let origin = case.origin.as_str();
+    let mut choices = Edge::new(&case.choices, at_end);
+    let mut picture = planes(&case.planes, at_end);
     let exact = case.trial.each_ref().map(|plane| plane[..case.samples()].to_vec());
     let mut trial = planes(&exact, at_end);
-    let mut counters = Edge::new(&case.counters[..reference::counters(depths, transform)], at_end);
-    let [c1, c2, c3] = picture.each_mut().map(|plane| &*plane.slice());
-    let scratch = Scratch { trial: trial.each_mut().map(Edge::slice), counters: counters.slice() };
-    library::estimate(settings, choices.slice(), [c1, c2, c3], scratch).expect(origin);
-    if case.samples() <= 100 {
+    let needed = reference::counters(settings.depths, settings.transform);
+    let mut counters = Edge::new(&case.counters[..needed], at_end);
+    for rounds in if case.samples() <= 100 { 0..=1 } else { 0..=0 } {
+        let lent = picture.each_mut().map(|plane| &*plane.slice());
         let scratch = Scratch { trial: trial.each_mut().map(Edge::slice), counters: counters.slice() };
-        library::search(settings, 1, choices.slice(), [c1, c2, c3], scratch).expect(origin);
+        let first = match rounds {
+            0 => library::estimate(settings, choices.slice(), lent, scratch),
+            _ => library::search(settings, rounds, choices.slice(), lent, scratch),
+        };
+        let lent = picture.each_mut().map(Edge::slice);
+        let in_place = match rounds {
+            0 => library::estimate_in_place(settings, choices.slice(), lent, counters.slice()),
+            _ => library::search_in_place(settings, rounds, choices.slice(), lent, counters.slice()),
+        };
+        assert_eq!(in_place.expect(origin), first.expect(origin), "{case}");
+    }
+    for (plane, entry) in picture.iter_mut().zip(&case.planes) {
+        assert_eq!(plane.slice(), entry, "{case}");
     }
 }
 

@@ -1,4 +1,4 @@
-//! The estimate and the search, with scratch that holds noise.
+//! The estimate and the search, with trial planes and in place; scratch holds noise.
 
 use crate::random::{self, each_round, Random};
 use crate::same::Case;
@@ -8,7 +8,7 @@ use compare::reference::{self, counters, greatest, places, Scratch, Settings, TR
 fn random_estimates() {
     each_round("random_estimates", 4000, |random, origin| {
         let case = random::case(random, origin);
-        assert_eq!(case.estimate().refusal, 0, "{case}");
+        assert_eq!(case.both_estimates().refusal, 0, "{case}");
     });
 }
 
@@ -25,14 +25,14 @@ fn random_searches() {
 }
 
 /// The search, and the estimate under what it found: the same answer.
-fn search_then_estimate(case: &Case) {
-    let (found, filters) = case.search();
+pub fn search_then_estimate(case: &Case) {
+    let (found, filters) = case.both_searches();
     assert_eq!(found.refusal, 0, "{case}");
     let again = Case { choices: filters, ..case.clone() };
-    assert_eq!(again.estimate(), found, "{case}");
+    assert_eq!(again.both_estimates(), found, "{case}");
 }
 
-/// Scratch exactly enough, one short in each part, and much longer than needed.
+/// Scratch exactly enough, one short in each part, and much longer than needed. In place the trial planes do not matter.
 #[test]
 fn scratch_lengths() {
     each_round("scratch_lengths", 200, |random, origin| {
@@ -43,23 +43,24 @@ fn scratch_lengths() {
         let samples = exact.samples();
         exact.trial.iter_mut().for_each(|plane| plane.truncate(samples));
         exact.counters.truncate(counters(settings.depths, settings.transform));
-        let both = |case: &Case, number| {
-            assert_eq!(case.estimate().refusal, number, "{case}");
-            assert_eq!(case.search().0.refusal, number, "{case}");
+        let answers = |case: &Case, first, in_place| {
+            assert_eq!((case.estimate().refusal, case.search().0.refusal), (first, first), "{case}");
+            let answers = (case.estimate_in_place().refusal, case.search_in_place().0.refusal);
+            assert_eq!(answers, (in_place, in_place), "{case}");
         };
-        both(&exact, 0);
+        answers(&exact, 0, 0);
         for plane in 0..3 {
             let mut short = exact.clone();
             short.trial[plane].pop();
-            both(&short, 9);
+            answers(&short, 9, 0);
         }
         let mut short = exact.clone();
         short.counters.pop();
-        both(&short, 9);
+        answers(&short, 9, 9);
         let mut long = exact;
         long.trial.iter_mut().for_each(|plane| plane.extend((0..random.below(300)).map(|i| i as i32 - 7)));
         long.counters.extend((0..random.below(3000)).map(|i| u32::MAX - i as u32));
-        both(&long, 0);
+        answers(&long, 0, 0);
     });
 }
 
@@ -73,9 +74,9 @@ fn every_depth() {
                 let mut case = random::case_of(random, Settings { width, height, depths, transform }, origin);
                 let mut end = |greatest: i64| random.one_of(&[0, greatest as i32]);
                 case.planes = greatest(depths).map(|greatest| (0..case.samples()).map(|_| end(greatest)).collect());
-                case.estimate();
+                case.both_estimates();
                 if random.one_in(3) {
-                    case.search();
+                    case.both_searches();
                 }
             }
         }
@@ -110,7 +111,7 @@ fn larger_pictures() {
             for transform in 0..TRANSFORMS {
                 let depths = random::depths(random);
                 let case = random::case_of(random, Settings { width, height, depths, transform }, origin);
-                let answer = case.estimate();
+                let answer = case.both_estimates();
                 assert_eq!((answer.refusal, answer.samples), (0, 4096), "{case}");
             }
         }
@@ -141,12 +142,12 @@ fn every_logarithm() {
         case.choices = vec![12; 2];
         for first in (0..=2048).step_by(3) {
             case.planes = [first, first + 1, first + 2].map(|count| slope(count, 4096));
-            assert_eq!(case.estimate().samples, 4096, "{case}");
+            assert_eq!(case.both_estimates().samples, 4096, "{case}");
         }
         for samples in (1..4096).step_by(7) {
             case.settings.width = samples as u32;
             case.planes = [0, 1, samples / 2].map(|count| slope(count, samples));
-            assert_eq!(case.estimate().samples, samples as u32, "{case}");
+            assert_eq!(case.both_estimates().samples, samples as u32, "{case}");
         }
     });
 }
@@ -223,7 +224,7 @@ fn scratch_content() {
                 let mut filled = case.clone();
                 filled.trial.iter_mut().for_each(|plane| plane.fill(trial));
                 filled.counters.fill(counter);
-                (filled.estimate(), filled.search())
+                (filled.both_estimates(), filled.both_searches())
             })
             .collect();
         assert!(answers.windows(2).all(|pair| pair[0] == pair[1]), "{case}");

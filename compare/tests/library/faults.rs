@@ -25,16 +25,20 @@ pub enum Call {
     InverseWrapped,
     Estimate,
     Search,
+    EstimateInPlace,
+    SearchInPlace,
 }
 
 /// Every call, and whether it is the one with bands.
-pub const CALLS: [(Call, bool); 10] = [
+pub const CALLS: [(Call, bool); 12] = [
     (Call::Forward, false),
     (Call::Inverse, false),
     (Call::ForwardWrapped, false),
     (Call::InverseWrapped, false),
     (Call::Estimate, false),
     (Call::Search, false),
+    (Call::EstimateInPlace, false),
+    (Call::SearchInPlace, false),
     (Call::Forward, true),
     (Call::Inverse, true),
     (Call::ForwardWrapped, true),
@@ -46,8 +50,16 @@ impl Call {
         matches!(self, Call::ForwardWrapped | Call::InverseWrapped)
     }
 
-    fn has_scratch(self) -> bool {
+    fn is_search(self) -> bool {
+        matches!(self, Call::Search | Call::SearchInPlace)
+    }
+
+    pub fn has_trial_planes(self) -> bool {
         matches!(self, Call::Estimate | Call::Search)
+    }
+
+    fn has_counters(self) -> bool {
+        self.has_trial_planes() || matches!(self, Call::EstimateInPlace | Call::SearchInPlace)
     }
 
     /// The number that the call answers; everything else is compared on the way.
@@ -59,6 +71,8 @@ impl Call {
             Call::InverseWrapped => case.inverse_wrapped().0,
             Call::Estimate => case.estimate().refusal,
             Call::Search => case.search().0.refusal,
+            Call::EstimateInPlace => case.estimate_in_place().refusal,
+            Call::SearchInPlace => case.search_in_place().0.refusal,
         }
     }
 }
@@ -157,7 +171,7 @@ impl Faults<Case> {
         self.add(7, |case| case.choices.truncate(1));
         self.add(7, |case| case.choices.push(0));
         self.add(7, |case| case.choices.clear());
-        if call != Call::Search {
+        if !call.is_search() {
             for place in 0..choices {
                 for filter in [13, 128, 255] {
                     self.add(7, move |case| {
@@ -173,15 +187,17 @@ impl Faults<Case> {
         }
     }
 
-    /// 9, and 10 where the call is the search.
+    /// 9, and 10 where the call is a search.
     fn add_scratch(&mut self, call: Call, samples: usize, needed: usize) {
-        for plane in 0..3 {
-            self.add(9, move |case| case.trial[plane].truncate(samples - 1));
-            self.add(9, move |case| case.trial[plane].clear());
+        if call.has_trial_planes() {
+            for plane in 0..3 {
+                self.add(9, move |case| case.trial[plane].truncate(samples - 1));
+                self.add(9, move |case| case.trial[plane].clear());
+            }
         }
         self.add(9, move |case| case.counters.truncate(needed - 1));
         self.add(9, move |case| case.counters.clear());
-        if call == Call::Search {
+        if call.is_search() {
             for rounds in [0, 5, 256 + 1, u32::MAX] {
                 self.add(10, move |case| case.rounds = rounds);
             }
@@ -213,7 +229,7 @@ pub fn faults(call: Call, case: &Case) -> Faults<Case> {
         faults.add_bands(case, rows);
     }
     faults.add_lengths(call, case.choices.len());
-    if call.has_scratch() {
+    if call.has_counters() {
         faults.add_scratch(call, case.samples(), counters(depths, transform));
     }
     faults.add_samples(call, depths);

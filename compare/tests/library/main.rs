@@ -18,6 +18,7 @@ mod graymap_files;
 mod graymap_refusals;
 mod graymaps;
 mod headers;
+mod in_place;
 mod inverses;
 mod lent;
 mod locality;

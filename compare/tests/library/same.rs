@@ -2,7 +2,7 @@
 
 use crate::lent::{Lent, Word};
 use crate::library::c::{self, RulantipEstimated};
-use compare::reference::{self, places, Answer, Estimated, Scratch, Settings};
+use compare::reference::{self, places, Answer, Estimated, Found, RefusalNumber, Scratch, Settings};
 use std::fmt;
 use std::ops::Range;
 
@@ -53,6 +53,72 @@ impl InPlace {
     fn name(&self, band_height: Option<u32>) -> String {
         let end = if band_height.is_some() { "_banded" } else { "" };
         format!("{}{end}", self.name)
+    }
+}
+
+/// The estimate or the search, with trial planes or in place.
+#[derive(Clone, Copy)]
+pub enum Estimator {
+    Estimate,
+    Search,
+    EstimateInPlace,
+    SearchInPlace,
+}
+
+/// The choices after an estimate or a search and its answer, or why it refuses.
+type Expected = Result<(Vec<u8>, Estimated), RefusalNumber>;
+
+/// What is lent to an estimate or a search; in place no trial planes.
+struct Memory {
+    choices: Lent<u8>,
+    planes: [Lent<i32>; 3],
+    trial: [Lent<i32>; 3],
+    counters: Lent<u32>,
+}
+
+impl Estimator {
+    fn name(self) -> &'static str {
+        match self {
+            Estimator::Estimate => "rulantip_estimate",
+            Estimator::Search => "rulantip_search",
+            Estimator::EstimateInPlace => "rulantip_estimate_in_place",
+            Estimator::SearchInPlace => "rulantip_search_in_place",
+        }
+    }
+
+    fn has_trial_planes(self) -> bool {
+        matches!(self, Estimator::Estimate | Estimator::Search)
+    }
+
+    /// The function's answer on the lent memory.
+    #[rustfmt::skip]
+    fn answer(self, settings: Settings, rounds: u32, lent: &mut Memory) -> RulantipEstimated {
+        let Settings { width, height, depths: [b1, b2, b3], transform } = settings;
+        let (choices, count) = (lent.choices.pointer(), lent.choices.len());
+        let [(c1, len1), (c2, len2), (c3, len3)] = lent.planes.each_mut().map(|plane| (plane.pointer(), plane.len()));
+        let [(t1, room1), (t2, room2), (t3, room3)] = lent.trial.each_mut().map(|plane| (plane.pointer(), plane.len()));
+        let (counters, room) = (lent.counters.pointer(), lent.counters.len());
+        // SAFETY: every pointer points to as many elements as said, and no two overlap.
+        unsafe {
+            match self {
+                Estimator::Estimate => c::rulantip_estimate(
+                    width, height, b1, b2, b3, transform, choices, count,
+                    c1, len1, c2, len2, c3, len3, t1, room1, t2, room2, t3, room3, counters, room,
+                ),
+                Estimator::Search => c::rulantip_search(
+                    width, height, b1, b2, b3, transform, rounds, choices, count,
+                    c1, len1, c2, len2, c3, len3, t1, room1, t2, room2, t3, room3, counters, room,
+                ),
+                Estimator::EstimateInPlace => c::rulantip_estimate_in_place(
+                    width, height, b1, b2, b3, transform, choices, count,
+                    c1, len1, c2, len2, c3, len3, counters, room,
+                ),
+                Estimator::SearchInPlace => c::rulantip_search_in_place(
+                    width, height, b1, b2, b3, transform, rounds, choices, count,
+                    c1, len1, c2, len2, c3, len3, counters, room,
+                ),
+            }
+        }
     }
 }
 
@@ -220,46 +286,69 @@ impl Case {
 
     /// The estimate.
     pub fn estimate(&self) -> RulantipEstimated {
-        let expected = reference::estimate(self.settings, &self.choices, self.slices(), self.scratch());
-        self.estimate_as(expected.map(|estimated| (self.choices.clone(), estimated)), false)
+        self.answer_of(Estimator::Estimate).0
     }
 
     /// The search; its answer and the choices after it.
     pub fn search(&self) -> (RulantipEstimated, Vec<u8>) {
-        let expected = reference::search(self.settings, self.rounds, self.choices.len(), self.slices(), self.scratch());
-        let filters = expected.as_ref().map_or(self.choices.clone(), |found| found.filters.clone());
-        (self.estimate_as(expected.map(|found| (found.filters, found.estimated)), true), filters)
+        self.answer_of(Estimator::Search)
     }
 
-    /// The estimate or the search where the choices after it and the answer are known.
-    pub fn estimate_as(&self, expected: Result<(Vec<u8>, Estimated), u32>, search: bool) -> RulantipEstimated {
-        let name = if search { "rulantip_search" } else { "rulantip_estimate" };
-        let mut choices = Lent::new(&self.choices, self.alignment);
-        let [mut c1, mut c2, mut c3] = self.lent_planes();
-        let [mut t1, mut t2, mut t3] = [0, 1, 2].map(|i| Lent::new(&self.trial[i], self.alignment + 2 * i));
-        let mut counters = Lent::new(&self.counters, self.alignment + 5);
-        let Settings { width, height, depths: [depth1, depth2, depth3], transform } = self.settings;
-        // SAFETY: every pointer points to as many elements as said, and no two overlap.
-        #[rustfmt::skip]
-        let answer = unsafe {
-            if search {
-                c::rulantip_search(
-                    width, height, depth1, depth2, depth3, transform, self.rounds,
-                    choices.pointer(), choices.len(),
-                    c1.pointer(), c1.len(), c2.pointer(), c2.len(), c3.pointer(), c3.len(),
-                    t1.pointer(), t1.len(), t2.pointer(), t2.len(), t3.pointer(), t3.len(),
-                    counters.pointer(), counters.len(),
-                )
-            } else {
-                c::rulantip_estimate(
-                    width, height, depth1, depth2, depth3, transform,
-                    choices.pointer(), choices.len(),
-                    c1.pointer(), c1.len(), c2.pointer(), c2.len(), c3.pointer(), c3.len(),
-                    t1.pointer(), t1.len(), t2.pointer(), t2.len(), t3.pointer(), t3.len(),
-                    counters.pointer(), counters.len(),
-                )
+    /// The estimate in place.
+    pub fn estimate_in_place(&self) -> RulantipEstimated {
+        self.answer_of(Estimator::EstimateInPlace).0
+    }
+
+    /// The search in place; its answer and the choices after it.
+    pub fn search_in_place(&self) -> (RulantipEstimated, Vec<u8>) {
+        self.answer_of(Estimator::SearchInPlace)
+    }
+
+    /// The estimate, with trial planes, none of them short, and in place: one answer.
+    pub fn both_estimates(&self) -> RulantipEstimated {
+        self.both(Estimator::Estimate, Estimator::EstimateInPlace).0
+    }
+
+    /// The search in both ways; the one answer and the choices after it.
+    pub fn both_searches(&self) -> (RulantipEstimated, Vec<u8>) {
+        self.both(Estimator::Search, Estimator::SearchInPlace)
+    }
+
+    fn both(&self, first: Estimator, in_place: Estimator) -> (RulantipEstimated, Vec<u8>) {
+        let expected = self.expected_of(first);
+        self.estimate_as(in_place, expected.clone());
+        self.estimate_as(first, expected)
+    }
+
+    fn answer_of(&self, call: Estimator) -> (RulantipEstimated, Vec<u8>) {
+        self.estimate_as(call, self.expected_of(call))
+    }
+
+    fn expected_of(&self, call: Estimator) -> Expected {
+        let Case { settings, rounds, choices, .. } = self;
+        let (count, planes, counters) = (choices.len(), self.slices(), self.counters.len());
+        let kept = |estimated: Estimated| (choices.clone(), estimated);
+        let found = |found: Found| (found.filters, found.estimated);
+        match call {
+            Estimator::Estimate => reference::estimate(*settings, choices, planes, self.scratch()).map(kept),
+            Estimator::Search => reference::search(*settings, *rounds, count, planes, self.scratch()).map(found),
+            Estimator::EstimateInPlace => reference::estimate_in_place(*settings, choices, planes, counters).map(kept),
+            Estimator::SearchInPlace => {
+                reference::search_in_place(*settings, *rounds, count, planes, counters).map(found)
             }
+        }
+    }
+
+    /// An estimate or a search where the choices after it and the answer are known.
+    pub fn estimate_as(&self, call: Estimator, expected: Expected) -> (RulantipEstimated, Vec<u8>) {
+        let name = call.name();
+        let mut lent = Memory {
+            choices: Lent::new(&self.choices, self.alignment),
+            planes: self.lent_planes(),
+            trial: [0, 1, 2].map(|i| Lent::new(&self.trial[i], self.alignment + 2 * i)),
+            counters: Lent::new(&self.counters, self.alignment + 5),
         };
+        let answer = call.answer(self.settings, self.rounds, &mut lent);
         let success = expected.is_ok();
         let (right, filters) = match expected {
             Ok((filters, Estimated { estimate, samples })) => {
@@ -270,15 +359,17 @@ impl Case {
         if answer != right {
             self.fail(name, &format!("the answer is {answer:?}, expected {right:?} with {filters:?}"));
         }
-        self.compare(name, &[("choices", &choices, &filters)]);
-        let planes = [("c1", &c1, c1.entry()), ("c2", &c2, c2.entry()), ("c3", &c3, c3.entry())];
-        self.compare(name, &planes);
-        for (trial, memory) in [("t1", &t1), ("t2", &t2), ("t3", &t3)] {
-            let zero = vec![0; memory.len()];
-            self.compare(name, &[(trial, memory, if success { &zero } else { memory.entry() })]);
+        self.compare(name, &[("choices", &lent.choices, &filters)]);
+        for (plane, memory) in ["c1", "c2", "c3"].iter().zip(&lent.planes) {
+            self.compare(name, &[(plane, memory, memory.entry())]);
         }
-        let zero = vec![0; counters.len()];
-        self.compare(name, &[("counters", &counters, if success { &zero } else { counters.entry() })]);
-        answer
+        for (trial, memory) in ["t1", "t2", "t3"].iter().zip(&lent.trial) {
+            let zero = vec![0; memory.len()];
+            let cleared = success && call.has_trial_planes();
+            self.compare(name, &[(trial, memory, if cleared { &zero } else { memory.entry() })]);
+        }
+        let zero = vec![0; lent.counters.len()];
+        self.compare(name, &[("counters", &lent.counters, if success { &zero } else { lent.counters.entry() })]);
+        (answer, filters)
     }
 }

@@ -1,9 +1,10 @@
-//! Sixteen threads at once on memory of their own get what one thread gets.
+//! Sixteen threads at once on memory of their own get what one thread gets, and a thread needs little stack.
 
 use crate::files::pixmap;
 use crate::graymaps::through_files;
+use crate::library;
 use crate::random::{self, each_round};
-use crate::same::Case;
+use crate::same::{Case, Estimator};
 use crate::transforms::there_and_back;
 use crate::wrapped;
 use compare::generator;
@@ -42,8 +43,9 @@ impl Known {
         through_files(&self.case, &finished);
         wrapped::both_ways(&self.case.wrapped());
         there_and_back(&self.banded);
-        self.case.estimate_as(Ok(self.found.clone()), true);
-        self.case.estimate();
+        self.case.estimate_as(Estimator::Search, Ok(self.found.clone()));
+        self.case.estimate_as(Estimator::SearchInPlace, Ok(self.found.clone()));
+        self.case.both_estimates();
         for file in &self.files {
             pixmap(file, b"", [0; 3], &self.case.origin);
         }
@@ -79,5 +81,31 @@ fn sixteen_threads() {
                 });
             }
         });
+    });
+}
+
+/// What a thread with a stack of 64 KiB gets. One that needs more ends the program.
+fn with_small_stack<T: Send>(call: impl FnOnce() -> T + Send) -> T {
+    let small = thread::Builder::new().stack_size(64 * 1024);
+    thread::scope(|scope| small.spawn_scoped(scope, call).unwrap().join().unwrap())
+}
+
+/// The searches keep most on the stack: with a full sample the table of logarithms and the numbers of 4,096 counters.
+#[test]
+fn small_stacks() {
+    each_round("small_stacks", 1, |random, origin| {
+        for transform in 0..4 {
+            let (width, height, depths) = (64, 65, [16; 3]);
+            let case = random::case_of(random, Settings { width, height, depths, transform }, origin);
+            let settings = library::Settings { width, height, depths, transform };
+            let Case { mut planes, mut choices, mut trial, mut counters, .. } = case.clone();
+            let [c1, c2, c3] = planes.each_ref().map(Vec::as_slice);
+            let scratch = library::Scratch { trial: trial.each_mut().map(Vec::as_mut_slice), counters: &mut counters };
+            let first = with_small_stack(|| library::search(settings, 1, &mut choices, [c1, c2, c3], scratch));
+            let lent = planes.each_mut().map(Vec::as_mut_slice);
+            let found = with_small_stack(|| library::search_in_place(settings, 1, &mut choices, lent, &mut counters));
+            assert_eq!(found.expect(origin), first.expect(origin), "{case}");
+            assert_eq!(planes, case.planes, "{case}");
+        }
     });
 }

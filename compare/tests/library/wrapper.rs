@@ -112,6 +112,35 @@ fn estimate_and_search() {
     }
 }
 
+/// The same example in place; the planes are as lent after every call.
+#[test]
+fn estimate_and_search_in_place() {
+    let picture: Planes = [[10, 10], [10, 10], [60, 60]];
+    for (transform, estimate) in [256, 384, 256, 256].into_iter().enumerate() {
+        let settings = Settings { depths: [4, 5, 6], transform: transform as u32, ..SETTINGS };
+        let mut choices = vec![9; library::places(settings.transform)];
+        let mut counters = vec![3; library::counters(settings.depths, settings.transform).unwrap()];
+        let mut call = |rounds: u32, short: usize, counters: &mut [u32]| {
+            let end = counters.len() - short;
+            let (counters, mut planes) = (&mut counters[..end], picture);
+            let lent = planes.each_mut().map(|plane| plane.as_mut_slice());
+            let answer = match rounds {
+                9 => library::estimate_in_place(settings, &choices, lent, counters),
+                _ => library::search_in_place(settings, rounds, &mut choices, lent, counters),
+            };
+            assert_eq!(planes, picture);
+            answer
+        };
+        assert_eq!(call(5, 0, &mut counters), Err(Refusal::Rounds));
+        assert_eq!([2, 9].map(|rounds| call(rounds, 1, &mut counters)), [Err(Refusal::Scratch); 2]);
+        assert!(counters.iter().all(|&counter| counter == 3));
+        let right = Ok(Estimated { estimate, samples: 2 });
+        assert_eq!([2, 9].map(|rounds| call(rounds, 0, &mut counters)), [right; 2]);
+        assert_eq!(choices, vec![0; choices.len()]);
+        assert!(counters.iter().all(|&counter| counter == 0));
+    }
+}
+
 #[test]
 fn counters() {
     assert_eq!([0, 1, 2, 3].map(|transform| library::counters([5, 6, 5], transform).unwrap()), [221, 251, 253, 253]);

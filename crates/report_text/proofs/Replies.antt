@@ -5,16 +5,16 @@ use mathlib.Core.List.{List, [], _∷_, _++_}
 use Prim.Native.Nat.{ℕ}
 use native.Mathlib.Omega.{arith}
 use lib.Dec.{eqb}
-use lib.ListN.{replicate}
+use lib.ListN.{length, replicate}
 use borrow.Author.Tests.{eq-eqb, ne-eqb}
 use Rattle.stage.specs.declared.Settings.{Settings}
 use Rattle.stage.specs.Answers.{Reply, done, refused, _else_, refusal, replyBy, Outcome}
 use Rattle.stage.specs.Settings.{each, settingsOf}
 use Rattle.stage.specs.Planes.{Planes}
 use Rattle.stage.specs.Steps.{steps, places}
-use Rattle.stage.specs.Transform.{isPicture}
+use Rattle.stage.specs.Transform.{lengths, isPicture}
 use Rattle.stage.specs.Pixmap.{Header}
-use Rattle.stage.specs.Search.{Estimated, Lent, estimated, winners, searchTests, searchCall}
+use Rattle.stage.specs.Search.{Estimated, Lent, scratchFits, estimated, winners, searchTests, searchCall}
 use Rattle.search.specs.declared.Estimated as code
 use Rattle.search.specs.declared.Estimated.the-variants.{Done, Refused}
 use Rattle.report_text.specs.declared.searches.Found.{Found}
@@ -31,7 +31,9 @@ not-zero n m v false e h = let s : n ≡ m = cc in rw s e
 search-refused : (s : Settings) (p : Planes) (k : ℕ) (m : Lent) (n : ℕ) → refused n ≡ searchCall s p k m .reply → eqb n 0 ≡ false
 unfolding searchCall
 search-refused s p k m n e =
-    let first = refusal (searchTests s p k m ++ (isPicture s p else 11) ∷ []) in
+    let l = m .scratch in
+    let fits = scratchFits s (lengths (l .trials)) (length (l .counters)) in
+    let first = refusal (searchTests s p fits k (length (m .choices)) ++ (isPicture s p else 11) ∷ []) in
     not-zero n first (estimated s p (winners s p k)) (eqb first 0) refl e
 
 module _ (h : Header) (p : Planes) (t : ℕ) where

@@ -9,7 +9,7 @@ use Rattle.search.specs.Calls.{replyOf}
 use Rattle.graymap.specs.declared.answers.Stored.{Stored}
 use Rattle.graymap.specs.declared.answers.Restored.{Restored}
 use Rattle.graymap.specs.Replies.{storedReply, restoredReply}
-use Rattle.rulantip.specs.declared.RulantipEstimated.{RulantipEstimated}
+use Rattle.rulantip.specs.declared.searches.RulantipEstimated.{RulantipEstimated}
 use Rattle.rulantip.specs.declared.files.RulantipPixmap.{RulantipPixmap}
 use Rattle.rulantip.specs.declared.files.RulantipWritten.{RulantipWritten}
 use Rattle.rulantip.specs.declared.files.RulantipGraymap.{RulantipGraymap}

@@ -2,7 +2,7 @@
 use mathlib.Core.Path.{_≡_, refl, sym, ap, _∙_, subst}
 use mathlib.Core.Bool.{Bool, true, false, cond}
 use mathlib.Core.List.{List, [], _∷_, _++_}
-use Prim.Native.Nat.{ℕ, zero, suc, _*_, _≤_}
+use Prim.Native.Nat.{ℕ, zero, suc, _*_, _≤_, _<_}
 use native.Mathlib.Omega.{arith}
 use lib.Dec.{eqb, eqb·suc-zero}
 use lib.IntN.{ℤ, pos}
@@ -12,13 +12,13 @@ use Rattle.integers.proofs.Copies.{cleared-front}
 use Rattle.stage.specs.declared.Settings.{Settings}
 use Rattle.stage.specs.declared.Plane.{Plane}
 use Rattle.stage.specs.declared.Plane.the-variants.{C1, C2, C3}
-use Rattle.stage.specs.Answers.{Test, _else_, refusal, done, Outcome}
-use Rattle.stage.specs.Planes.{Planes, triple, get, mapTriple}
+use Rattle.stage.specs.Answers.{Test, _else_, refusal, done, Outcome, between}
+use Rattle.stage.specs.Planes.{Triple, Planes, triple, get, mapTriple}
 use Rattle.stage.specs.Steps.{steps, places}
-use Rattle.stage.specs.Ranges.{sampleRanges}
+use Rattle.stage.specs.Ranges.{sampleRanges, widest}
 use Rattle.stage.specs.declared.Form.the-variants.{Plain}
 use Rattle.stage.specs.declared.Bands.the-variants.{One}
-use Rattle.stage.specs.Transform.{lengths, settingsTests, isPicture, Picture}
+use Rattle.stage.specs.Transform.{lengths, settingsTests, isPicture}
 use Rattle.stage.specs.Estimate.{counted}
 use Rattle.stage.specs.Search.{cleared, clearedScratch, scratchFits, scratchTests, searched, choicesEstimate, estimated, winners}
 use Rattle.stage.specs.Search as stage
@@ -39,6 +39,13 @@ refusal-then ((true else n) ∷ l) m k = refusal-then l m (k .1)
 refusal-then ((false else zero) ∷ l) m k = absurd (k .0)
 refusal-then ((false else suc n) ∷ l) m k = rw eqb·suc-zero
 
+-- the tests of a search: those up to 9, whose refusal is n, and then that of the rounds
+pub search-refused : (s : Settings) (fit : Bool) (l : Triple ℕ) (fits : Bool) (rounds : ℕ) {n r : ℕ} → n ≡ refusal (scratchTests s fit l fits)
+    → r ≡ cond (eqb n 0) (cond (between 1 4 rounds) 0 10) n → r ≡ refusal (scratchTests s fit l fits ++ (between 1 4 rounds else 10) ∷ [])
+search-refused s fit l fits rounds e f =
+    f ∙ ap (λ (n : ℕ). cond (eqb n 0) (cond (between 1 4 rounds) 0 10) n) e
+    ∙ refusal-then (scratchTests s fit l fits) ((between 1 4 rounds else 10) ∷ []) (tt, (tt, (tt, (tt, (tt, (tt, (tt, (tt, tt))))))))
+
 -- the code's success as the definitions'
 pub success : {M : Type 0} {r : Estimated} {e n : ℕ} {m : M} {o : Outcome stage.Estimated M} → r ≡ Done e n
     → record { reply = done (record { estimate = e; samples = n }); memory = m } ≡ o → outcomeOf r m ≡ o
@@ -52,12 +59,21 @@ zero-cleared n = record { each = go n }
     go (suc n) zero = refl
     go (suc n) (suc x) = go n x
 
+-- past the tests, with a picture p and counters l, which were lent and cleared
+pub picture-ready : {s : Settings} {fit : Bool} (p : Planes) (counters : List ℕ) {l : List ℕ} → ValidSettings Plain One s fit (lengths p) → 2 * widest s < length counters
+    → isPicture s p ≡ true → l ≡ cleared 0 counters → PictureReady s p l
+picture-ready {s} p counters v enough picture e = record {
+  allowed = v .allowed;
+  picture = record { size = has-size p v; samples = withinRanges-iff (sampleRanges s) p .0 (true-holds picture) };
+  counters = record { enough = rw (e, length-replicate {A = ℕ} (length counters) 0) enough; zero = rw e (zero-cleared (length counters)) };
+}
+
 -- past the tests up to 9, of picture p and lent trial planes t
 pub record Passed (s : Settings) (fit : Bool) (p t : Planes) (counters : List ℕ) : Type 0 where
   pub settings : ValidSettings Plain One s fit (lengths p)
   pub scratch : ValidScratch s (lengths t) (length counters)
 
-pub passed : (s : Settings) (fit : Bool) (p t : Planes) (counters : List ℕ) → Holds (scratchTests s fit (lengths p) (lengths t) (length counters))
+pub passed : (s : Settings) (fit : Bool) (p t : Planes) (counters : List ℕ) → Holds (scratchTests s fit (lengths p) (scratchFits s (lengths t) (length counters)))
     → Passed s fit p t counters
 passed s fit p t counters h =
     let n = length counters in
@@ -97,13 +113,9 @@ module _ {s : Settings} {fit : Bool} {p t : Planes} {counters : List ℕ} {x : P
       λ i. triple (w .prepared .c1 i) (e2 i) (e3 i)
 
   pub ready : PictureReady s (front p x) l
-  ready = record {
-    allowed = w .past .settings .allowed;
-    picture = subst (Picture s) (sym front-is)
-        (record { size = has-size p (w .past .settings); samples = withinRanges-iff (sampleRanges s) p .0 (true-holds (w .picture)) });
-    counters = let e = w .prepared .counters in
-        record { enough = rw (e, length-replicate {A = ℕ} (length counters) 0) (w .past .scratch .enough); zero = rw e (zero-cleared (length counters)) };
-  }
+  ready =
+      subst (λ (q : Planes). PictureReady s q l) (sym front-is)
+      (picture-ready p counters (w .past .settings) (w .past .scratch .enough) (w .picture) (w .prepared .counters))
 
   -- the estimate e that the work found for choices φ, with N
   pub answered : (φ : List ℕ) (e : ℕ) → e ≡ choicesEstimate s (front p x) φ → record { estimate = e; samples = counted (length (p .c1)) } ≡ estimated s p φ

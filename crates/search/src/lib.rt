@@ -1,6 +1,6 @@
 // The calls `estimate` and `search` (01, "Estimate and search"). Both work on a copy of the picture, at the front of the trial planes.
-mod refusals;
-mod scratch;
+pub mod refusals;
+pub mod scratch;
 
 ghost use mathlib.Core.Path.{_≡_};
 ghost use Rattle.stage.specs.Estimate.{counted};
@@ -10,12 +10,11 @@ use estimate::counted;
 use lifting::passes::places;
 use ranges::is_picture;
 use refusals::scratch_refusal;
+use refusals::search_refusal;
 use scratch::clear_planes;
 use scratch::prepare;
 use stage::Bands;
 use stage::Settings;
-use stage::is_between;
-use stage::select;
 use transform::settings::choices_fit;
 use trials::estimate_picture;
 use trials::search_picture;
@@ -27,7 +26,7 @@ pub enum Estimated {
 }
 
 // Success, for planes of n samples.
-fn found(estimate: u32, n: usize) -> Estimated
+pub fn found(estimate: u32, n: usize) -> Estimated
     ensures { λ r. ⌜ r ≡ Estimated.Done estimate (counted n) ⌝ }
 {
     Estimated::Done {
@@ -111,8 +110,7 @@ pub fn search(
         t3.len(),
         counters.len(),
     );
-    let last = select(is_between(1, 4, rounds), 0, 10);
-    let refused = select(first == 0, last, first);
+    let refused = search_refusal(first, rounds);
     if refused != 0 {
         return Estimated::Refused(refused);
     }

@@ -12,7 +12,7 @@ use Rattle.stage.specs.Filter.{filtered, mean}
 use Rattle.stage.specs.Transform.{forward, inverse, transformed, untransformed}
 use Rattle.stage.specs.Logarithm.{L}
 use Rattle.stage.specs.Estimate.{med, prediction, residual, counted, countedIndex, occurrences, histogram, total, logSum, estimateOfCounts, planeEstimate, pictureEstimate}
-use Rattle.stage.specs.Search.{winner, round, rounds, searched, choicesEstimate, estimateCall, searchCall}
+use Rattle.stage.specs.Search.{winner, round, rounds, searched, choicesEstimate, estimateCall, searchCall, estimateInPlace, searchInPlace}
 use Rattle.stage.specs.Raster.{fromPairs, toPairs}
 use Rattle.stage.specs.Pixmap.{isWhite, endsStretch, staysInside, afterStretch, field, headerText, depthAmong, fileOf, headerOf, rasterOf, everyThird, planesOf}
 use Rattle.stage.specs.Graymap.{writtenHeader, graymapWritten, graymapRead}
@@ -23,7 +23,7 @@ use Rattle.stage.specs.TransformCases.{planeCases, nullCases, limitCases
 use Rattle.stage.specs.DepthCases.{depthRangeCases, depthCases, DepthCasesHold}
 use Rattle.stage.specs.WrappedCases.{wrappedCases, keptCases, refusalCases, WrappedCasesHold}
 use Rattle.stage.specs.BandCases.{bandCases, bandStepCases, bandRefusalCases, BandCasesHold}
-use Rattle.stage.specs.SearchCases.{estimateCases, tieCases, scratchCases, EstimateCasesHold, TieCasesHold}
+use Rattle.stage.specs.SearchCases.{estimateCases, tieCases, scratchCases, inPlaceCases, EstimateCasesHold, TieCasesHold}
 use Rattle.stage.specs.PixmapCases.{textCases, fileCases, planesCases, PixmapCasesHold}
 use Rattle.stage.specs.GraymapCases.{rasterCases, writeCases, writeOrderCases, readCases, readOrderCases, GraymapCasesHold}
 use Rattle.stage.proofs.OneColour.{one-colour}
@@ -62,8 +62,8 @@ unfolding tieCases winner round rounds searched
 tie-cases-hold = refl
 
 pub estimate-cases-hold : EstimateCasesHold
-unfolding estimateCases scratchCases transformed filtered mean allWithin med prediction residual counted countedIndex occurrences histogram L size total logSum estimateOfCounts planeEstimate pictureEstimate choicesEstimate estimateCall searchCall
-estimate-cases-hold = (refl, refl)
+unfolding estimateCases scratchCases inPlaceCases transformed filtered mean allWithin med prediction residual counted countedIndex occurrences histogram L size total logSum estimateOfCounts planeEstimate pictureEstimate choicesEstimate estimateCall searchCall estimateInPlace searchInPlace
+estimate-cases-hold = (refl, refl, refl)
 
 pub pixmap-cases-hold : PixmapCasesHold
 unfolding textCases fileCases planesCases isDigit decimal digitCount afterDigits digits numeral isWhite endsStretch staysInside afterStretch field headerText depthAmong fileOf headerOf rasterOf fromPairs everyThird planesOf

@@ -26,6 +26,7 @@ pub mod Histogram
 pub mod Counting
 pub mod OneColour
 pub mod Winner
+pub mod InPlace
 pub mod SharedSearch
 pub mod Cases
 pub mod SearchCases

@@ -1,16 +1,16 @@
 -- The search with each winner and each round computed once and shared: the same answer, in few enough steps to compute it.
 use mathlib.Core.Path.{_≡_, refl, ap, _∙_}
-use mathlib.Core.Bool.{cond}
+use mathlib.Core.Bool.{Bool, cond}
 use mathlib.Core.List.{List, [], _∷_, _++_}
 use Prim.Native.Nat.{ℕ, zero, suc}
 use lib.Dec.{ltb}
-use lib.ListN.{getD, set, replicate}
+use lib.ListN.{length, getD, set, replicate}
 use Rattle.stage.specs.Answers.{_else_, Outcome, outcome}
 use Rattle.stage.specs.Settings.{Settings}
 use Rattle.stage.specs.Planes.{Planes}
 use Rattle.stage.specs.Steps.{steps, places}
 use Rattle.stage.specs.Transform.{isPicture}
-use Rattle.stage.specs.Search.{winner, round, rounds, searched, choicesEstimate, Estimated, Lent, estimated, searchTests, clearedScratch, searchCall}
+use Rattle.stage.specs.Search.{winner, round, rounds, searched, choicesEstimate, Estimated, Scratch, Lent, estimated, searchTests, searchWith}
 
 module _ (e : List ℕ → ℕ) where
   -- of filter n and the leading filter f, the one that leads then
@@ -47,22 +47,22 @@ module _ (e : List ℕ → ℕ) where
   same-rounds n zero φ = refl
   same-rounds n (suc k) φ = same-round n (rounds e n k φ) ∙ ap (sharedRound n) (same-rounds n k φ)
 
--- the call's outcome where the search leaves the choices φ
-abbrev outcomeWith : Settings → Planes → ℕ → Lent → List ℕ → Outcome Estimated Lent
-outcomeWith s p r m φ =
+-- the outcome where the search leaves the choices φ
+abbrev outcomeWith : Settings → Planes → Bool → Scratch → ℕ → Lent → List ℕ → Outcome Estimated Lent
+outcomeWith s p fits after r m φ =
     outcome
-    (searchTests s p r m ++ (isPicture s p else 11) ∷ [])
+    (searchTests s p fits r (length (m .choices)) ++ (isPicture s p else 11) ∷ [])
     (estimated s p φ)
-    (record { choices = φ; scratch = clearedScratch (m .scratch) })
+    (record { choices = φ; scratch = after })
     m
 
-unfoldable pub sharedCall : Settings → Planes → ℕ → Lent → Outcome Estimated Lent
-sharedCall s p r m =
+unfoldable pub sharedWith : Settings → Planes → Bool → Scratch → ℕ → Lent → Outcome Estimated Lent
+sharedWith s p fits after r m =
     let n = places (steps (s .transform)) in
-    outcomeWith s p r m (sharedRounds (choicesEstimate s p) n r (replicate n 0))
+    outcomeWith s p fits after r m (sharedRounds (choicesEstimate s p) n r (replicate n 0))
 
-pub same-call : (s : Settings) (p : Planes) (r : ℕ) (m : Lent) → searchCall s p r m ≡ sharedCall s p r m
-unfolding searchCall searched sharedCall
-same-call s p r m =
+pub same-search : (s : Settings) (p : Planes) (fits : Bool) (after : Scratch) (r : ℕ) (m : Lent) → searchWith s p fits after r m ≡ sharedWith s p fits after r m
+unfolding searched sharedWith
+same-search s p fits after r m =
     let n = places (steps (s .transform)) in
-    ap (outcomeWith s p r m) (same-rounds (choicesEstimate s p) n r (replicate n 0))
+    ap (outcomeWith s p fits after r m) (same-rounds (choicesEstimate s p) n r (replicate n 0))

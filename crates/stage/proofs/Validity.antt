@@ -14,7 +14,7 @@ use Rattle.stage.specs.Settings.{Settings, Form, Bands, depthAt, depthsA
 use Rattle.stage.specs.Planes.{Plane, Triple, Planes, get}
 use Rattle.stage.specs.Ranges.{widest}
 use Rattle.stage.specs.Transform.{lengths, allEqual, choicesFit, settingsTests, Fit, HasSize}
-use Rattle.stage.specs.Search.{countersNeeded, allAtLeast, scratchFits}
+use Rattle.stage.specs.Search.{countersNeeded, countersFit, allAtLeast, scratchFits}
 use Rattle.stage.specs.Theorems.{CountersTold}
 use Rattle.stage.proofs.Answers.{Holds, between-iff, sized-iff}
 use Rattle.stage.proofs.Triples.{each-test, get-map}
@@ -101,15 +101,18 @@ pixels-some {s} a = omega (arith, mul-le-mul (a .width-least) (a .height-least))
 pub pixels-most : {s : Settings} → Allowed s → pixels s ≤ 67108864
 pixels-most {s} a = omega (arith, mul-le-mul (a .width-most) (a .height-most))
 
--- The trial planes, of lengths l, have room for the picture, and there are enough counters.
+-- There are enough counters; and where trial planes, of lengths l, are lent too, they have room for the picture.
+pub counters-enough : (s : Settings) (counters : ℕ) → T (countersFit s counters) → 2 * widest s < counters
+counters-enough s counters t = omega (arith, leb→le (countersNeeded s) counters t)
+
 pub record ValidScratch (s : Settings) (l : Triple ℕ) (counters : ℕ) : Type 0 where
   pub room : (c : Plane) → pixels s ≤ get l c
   pub enough : 2 * widest s < counters
 
 pub scratch-valid : (s : Settings) (l : Triple ℕ) (counters : ℕ) → T (scratchFits s l counters) → ValidScratch s l counters
 scratch-valid s l counters t =
-    let a = and-iff (allAtLeast (pixels s) l) (leb (countersNeeded s) counters) .0 t in
+    let a = and-iff (allAtLeast (pixels s) l) (countersFit s counters) .0 t in
     record {
       room = λ c. leb→le (pixels s) (get l c) (each-test (λ (c : Plane). leb (pixels s) (get l c)) .0 (a .0) c);
-      enough = omega (arith, leb→le (countersNeeded s) counters (a .1));
+      enough = counters-enough s counters (a .1);
     }

@@ -8,13 +8,17 @@ use lib.ListN.{getD, replicate}
 use Rattle.stage.specs.Answers.{done, refused}
 use Rattle.stage.specs.Settings.{Settings, each, settingsOf}
 use Rattle.stage.specs.Planes.{Planes, triple}
-use Rattle.stage.specs.Search.{Scratch, Lent, searched, estimateCall, searchCall}
+use Rattle.stage.specs.Search.{Scratch, Lent, searched, estimateCall, searchCall, estimateInPlace, searchInPlace}
 use Rattle.stage.specs.Case.{Value, Case, _gives_, Hold, counts, estimate, search, pixel}
 
 -- scratch: trial planes of these lengths, and k counters, with y and z in them
 abbrev scratch : ℕ → ℕ → ℕ → ℕ → ℕ → ℕ → Scratch
 scratch n1 n2 n3 k y z =
     record { trials = triple (replicate n1 (pos y)) (replicate n2 (pos y)) (replicate n3 (pos y)); counters = replicate k z }
+
+-- in place: planes p, and k counters with z in them
+abbrev own : Planes → ℕ → ℕ → Scratch
+own p k z = record { trials = p; counters = replicate k z }
 
 abbrev lent : List ℕ → Scratch → Lent
 lent φ m = record { choices = φ; scratch = m }
@@ -81,6 +85,13 @@ searchCases =
     gives finds (12 ∷ 1 ∷ 0 ∷ []) 478 3 (scratch 3 3 3 19 0 0))
     ∷ []
 
+-- The same in place: the planes are as lent, the filters, estimate and N those above.
+unfoldable pub inPlaceSearchCases : List Case
+inPlaceSearchCases =
+    (search (searchInPlace (reported 2) 2 (lent (99 ∷ 5 ∷ []) (own picture 1022 9))) gives finds (0 ∷ 0 ∷ []) 256 2 (own picture 1022 0))
+    ∷ (search (searchInPlace (settingsOf 3 1 (each 2) 3) 2 (lent (7 ∷ 7 ∷ 7 ∷ []) (own three 19 9))) gives finds (12 ∷ 1 ∷ 0 ∷ []) 478 3 (own three 19 0))
+    ∷ []
+
 unfoldable pub tieCases : List Case
 tieCases =
     -- the first of two ties wins, and the present filter stays in later rounds and where all tie
@@ -132,11 +143,27 @@ scratchCases =
     ∷ (search (searchCall s bright 4 (lent (13 ∷ 99 ∷ []) ample)) gives refusesSearch 11 (lent (13 ∷ 99 ∷ []) ample))
     ∷ []
 
+-- In place: "9 then concerns the counters alone"; else the tests and their order are the same. The planes are as lent after every answer.
+unfoldable pub inPlaceCases : List Case
+inPlaceCases =
+    (estimate (estimateInPlace (reported 1) (0 ∷ 0 ∷ 0 ∷ 0 ∷ []) (own picture 1787 9)) gives estimates 384 2 (own picture 1787 0))
+    ∷ (estimate (estimateInPlace s (0 ∷ 0 ∷ []) (own black 13 9)) gives estimates 0 1 (own black 13 0))
+    ∷ (estimate (estimateInPlace s (0 ∷ []) (own long 12 9)) gives refusesEstimate 7 (own long 12 9))
+    ∷ (estimate (estimateInPlace s (0 ∷ 0 ∷ []) (own long 12 9)) gives refusesEstimate 8 (own long 12 9))
+    ∷ (estimate (estimateInPlace s (0 ∷ 0 ∷ []) (own bright 12 9)) gives refusesEstimate 9 (own bright 12 9))
+    ∷ (estimate (estimateInPlace s (0 ∷ 0 ∷ []) (own bright 13 9)) gives refusesEstimate 11 (own bright 13 9))
+    ∷ (search (searchInPlace s 5 (lent (0 ∷ []) (own long 12 9))) gives refusesSearch 7 (lent (0 ∷ []) (own long 12 9)))
+    ∷ (search (searchInPlace s 5 (lent (13 ∷ 99 ∷ []) (own long 12 9))) gives refusesSearch 8 (lent (13 ∷ 99 ∷ []) (own long 12 9)))
+    ∷ (search (searchInPlace s 5 (lent (13 ∷ 99 ∷ []) (own bright 12 9))) gives refusesSearch 9 (lent (13 ∷ 99 ∷ []) (own bright 12 9)))
+    ∷ (search (searchInPlace s 5 (lent (13 ∷ 99 ∷ []) (own bright 13 9))) gives refusesSearch 10 (lent (13 ∷ 99 ∷ []) (own bright 13 9)))
+    ∷ (search (searchInPlace s 4 (lent (13 ∷ 99 ∷ []) (own bright 13 9))) gives refusesSearch 11 (lent (13 ∷ 99 ∷ []) (own bright 13 9)))
+    ∷ []
+
 abbrev pub EstimateCasesHold : Type 0
-EstimateCasesHold = Hold estimateCases × Hold scratchCases
+EstimateCasesHold = Hold estimateCases × Hold scratchCases × Hold inPlaceCases
 
 abbrev pub SearchCasesHold : Type 0
-SearchCasesHold = Hold searchCases
+SearchCasesHold = Hold searchCases × Hold inPlaceSearchCases
 
 abbrev pub TieCasesHold : Type 0
 TieCasesHold = Hold tieCases

@@ -9,14 +9,14 @@ use lib.IntN.{ℤ}
 use lib.ListN.{take, drop, set, getD}
 use Rattle.integers.specs.Parts.{In}
 use Rattle.integers.specs.Lists.{AllIn}
-use Rattle.stage.specs.Settings.{Settings, Plain, Bands, One, each, depthAt, Allowed}
+use Rattle.stage.specs.Settings.{Settings, Plain, Bands, One, each, depthAt, pixels, Allowed}
 use Rattle.stage.specs.Planes.{Plane, Planes}
 use Rattle.stage.specs.Filter.{mean, filtered}
 use Rattle.stage.specs.Steps.{Setup, steps, places, run, undo, YCoCg-R}
 use Rattle.stage.specs.Ranges.{AllInside, maxSample, ranges, sampleRanges, finishedRanges, depthTable, threeRows, bounded, widest, InRanges, KeepsRanges}
-use Rattle.stage.specs.Transform.{choicesFit, setup, transformed, untransformed, Picture}
+use Rattle.stage.specs.Transform.{choicesFit, lengths, setup, transformed, untransformed, Picture}
 use Rattle.stage.specs.Demand3.{GoesTo}
-use Rattle.stage.specs.Search.{countersNeeded, countersCall, winner, searched}
+use Rattle.stage.specs.Search.{countersNeeded, countersCall, winner, searched, allAtLeast, estimateCall, searchCall, estimateInPlace, searchInPlace}
 
 -- Running the steps and undoing them cancel, both ways, on any three planes of whole numbers.
 abbrev pub StepsCancel : Type 0
@@ -109,3 +109,19 @@ WinnerWins = (e : List ℕ → ℕ) (φ : List ℕ) (k n : ℕ) → Wins e φ k 
 -- The choices that a search leaves pass the test of choices, whatever the estimates.
 abbrev pub SearchedFit : Type 0
 SearchedFit = (s : Settings) (e : List ℕ → ℕ) (rounds : ℕ) → T (choicesFit One s (searched e (places (steps (s .transform))) rounds))
+
+-- 02, request 5: "Filters, estimate and N equal those of the first search on every picture." Lent the same picture p, choices φ and counters l, the
+-- call in place answers what the call with trial planes t answers, where these have room, and leaves the same choices and counters. So it
+-- is where they refuse, and for planes that hold no picture. The planes are as lent.
+abbrev pub EstimateSameInPlace : Type 0
+EstimateSameInPlace =
+    (s : Settings) (φ : List ℕ) (p t : Planes) (l : List ℕ) → T (allAtLeast (pixels s) (lengths t))
+    → let first = estimateCall s p φ (record { trials = t; counters = l }) in
+    estimateInPlace s φ (record { trials = p; counters = l }) ≡ record { reply = first .reply; memory = record { trials = p; counters = first .memory .counters } }
+
+abbrev pub SearchSameInPlace : Type 0
+SearchSameInPlace =
+    (s : Settings) (rounds : ℕ) (φ : List ℕ) (p t : Planes) (l : List ℕ) → T (allAtLeast (pixels s) (lengths t))
+    → let first = searchCall s p rounds (record { choices = φ; scratch = record { trials = t; counters = l } }) in
+    searchInPlace s rounds (record { choices = φ; scratch = record { trials = p; counters = l } })
+    ≡ record { reply = first .reply; memory = record { choices = first .memory .choices; scratch = record { trials = p; counters = first .memory .scratch .counters } } }

@@ -12,7 +12,7 @@ use Rattle.stage.specs.declared.Bands.the-variants.{One}
 use Rattle.stage.specs.Answers.{Test, refusal}
 use Rattle.stage.specs.Planes.{Planes, triple, get}
 use Rattle.stage.specs.Transform.{choicesFit, lengths, isPicture}
-use Rattle.stage.specs.Search.{Scratch, clearedScratch, scratchTests, estimated, estimateCall}
+use Rattle.stage.specs.Search.{Scratch, clearedScratch, scratchFits, scratchTests, estimated, estimateCall}
 use Rattle.stage.proofs.Answers.{Decides, decides}
 use Rattle.stage.proofs.Triples.{each-plane}
 use Rattle.search.specs.Calls.{scratchOf}
@@ -33,7 +33,7 @@ abbrev fit : tie.Start → Bool
 fit a = choicesFit One (a .args .settings) (now (a .args .choices))
 
 abbrev tests : tie.Start → Bool → List Test
-tests a b = scratchTests (a .args .settings) b (lengths (planes a)) (lengths (trials a)) (length (now (a .args .counters)))
+tests a b = scratchTests (a .args .settings) b (lengths (planes a)) (scratchFits (a .args .settings) (lengths (trials a)) (length (now (a .args .counters))))
 
 abbrev start : tie.After-scratch-refusal → tie.Start
 start r = r .before .before .before .before
@@ -76,12 +76,6 @@ work x =
 abbrev lent-from : tie.After-slice-known2 → tie.After-prepare
 lent-from c = c .before .before .before .before .before
 
-choices-fit-requires : tie.Need-choices-fit-requires
-choices-fit-requires c κs = search needs
-
-scratch-refusal-requires : tie.Need-scratch-refusal-requires
-scratch-refusal-requires c κs = search needs
-
 returns : tie.Need-returns
 unfolding estimateCall
 returns c = decision (c .before) .first (c .if1 .taken)
@@ -122,12 +116,6 @@ estimate-picture-requires c κs =
     let w = work (lent-from (c .before .before .before .before)) in
     (ready w, w .past .settings .choices-fit)
 
-clear-planes-requires : tie.Need-clear-planes-requires
-clear-planes-requires c κs = search needs
-
-found-requires : tie.Need-found-requires
-found-requires c κs = search needs
-
 returns-3 : tie.Need-returns-3
 unfolding estimateCall
 returns-3 c =
@@ -146,8 +134,7 @@ pub estimate-spec : {M : Type 1} → statement M
 estimate-spec =
     tie.close
     (tie.spec
-    choices-fit-requires
-    scratch-refusal-requires
+    (λ c κs. search needs) (λ c κs. search needs)
     returns
     is-picture-requires
     returns-2
@@ -159,7 +146,5 @@ estimate-spec =
     slice-relend-prefix-estimate-picture-3
     slice-aggregate-estimate-picture-3
     estimate-picture-requires
-    clear-planes-requires
-    found-requires
-    (λ c. search needs) (λ c. search needs) (λ c. search needs) (λ c. search needs)
+    (λ c κs. search needs) (λ c κs. search needs) (λ c. search needs) (λ c. search needs) (λ c. search needs) (λ c. search needs)
     returns-3)

@@ -1,7 +1,7 @@
 use borrow.Author.Needs.{needs}
-use mathlib.Core.Path.{_≡_, sym, ap, ap₂, _∙_}
-use mathlib.Core.Bool.{Bool, cond}
-use mathlib.Core.List.{List, [], _∷_}
+use mathlib.Core.Path.{_≡_, sym, ap, _∙_}
+use mathlib.Core.Bool.{Bool}
+use mathlib.Core.List.{List, [], _∷_, _++_}
 use Prim.Native.Nat.{ℕ}
 use lib.Dec.{eqb, eqb→eq}
 use lib.ListN.{length}
@@ -14,11 +14,11 @@ use Rattle.stage.specs.declared.Bands.the-variants.{One}
 use Rattle.stage.specs.Answers.{Test, _else_, refusal, between}
 use Rattle.stage.specs.Planes.{Planes, triple, get}
 use Rattle.stage.specs.Transform.{countFits, lengths, isPicture}
-use Rattle.stage.specs.Search.{Lent, clearedScratch, scratchTests, searchTests, estimated, winners, searchCall}
+use Rattle.stage.specs.Search.{Lent, clearedScratch, scratchFits, scratchTests, estimated, winners, searchCall}
 use Rattle.stage.proofs.Answers.{holds-append, Decides, decides}
 use Rattle.stage.proofs.Triples.{each-plane}
 use Rattle.search.specs.Calls.{lent}
-use Rattle.search.proofs.Calls.{refusal-then, success, Passed, passed, Work, room, inside, ready, answered, won, left}
+use Rattle.search.proofs.Calls.{search-refused, success, Passed, passed, Work, room, inside, ready, answered, won, left}
 use Rattle.search.proofs.search.Statement.{statement}
 use Rattle.search.proofs.search.Tie as tie
 
@@ -34,31 +34,27 @@ memory a = lent (now (a .args .choices)) (trials a) (now (a .args .counters))
 abbrev fit : tie.Start → Bool
 fit a = countFits One (a .args .settings) (length (now (a .args .choices)))
 
+abbrev fits : tie.Start → Bool
+fits a = scratchFits (a .args .settings) (lengths (trials a)) (length (now (a .args .counters)))
+
 abbrev tests : tie.Start → Bool → List Test
-tests a b = scratchTests (a .args .settings) b (lengths (planes a)) (lengths (trials a)) (length (now (a .args .counters)))
+tests a b = scratchTests (a .args .settings) b (lengths (planes a)) (fits a)
 
 abbrev last : tie.Start → List Test
 last a = (between 1 4 (a .args .rounds) else 10) ∷ []
 
-abbrev start : tie.After-select2 → tie.Start
-start r = r .before .before .before .before .before .before .before
+abbrev start : tie.After-search-refusal → tie.Start
+start r = r .before .before .before .before .before
 
-decision : (r : tie.After-select2) → let a = start r in let s = a .args .settings in let φ = winners s (planes a) (a .args .rounds) in
-    Decides (searchTests s (planes a) (a .args .rounds) (memory a)) (isPicture s (planes a)) 11 (estimated s (planes a) φ)
-    (record { choices = φ; scratch = clearedScratch (memory a .scratch) }) (memory a) (r .select2 .result)
+decision : (r : tie.After-search-refusal) → let a = start r in let s = a .args .settings in let φ = winners s (planes a) (a .args .rounds) in
+    Decides (tests a (fit a) ++ last a) (isPicture s (planes a)) 11 (estimated s (planes a) φ) (record { choices = φ; scratch = clearedScratch (memory a .scratch) }) (memory a)
+    (r .search-refusal .result)
 decision r =
     let a = start r in
-    let i = r .before .before in
     let k = length (now (a .args .choices)) in
-    let n = i .before .scratch-refusal .ensures ∙ ap (λ (n : ℕ). refusal (tests a (eqb k n))) (i .before .before .places .ensures) in
-    let b : i .is-between .result ≡ between 1 4 (a .args .rounds) = i .is-between .ensures in
-    let m = r .before .select .ensures ∙ ap (λ (t : Bool). cond t 0 10) b in
-    let f = i .before .scratch-refusal .result in
-    let e : r .select2 .result ≡ cond (eqb f 0) (r .before .select .result) f = r .select2 .ensures in
-    decides (searchTests (a .args .settings) (planes a) (a .args .rounds) (memory a)) _ 11 _ _ _
-    (tt, (tt, (tt, (tt, (tt, (tt, (tt, (tt, (tt, (tt, tt)))))))))) _
-    (e ∙ ap₂ (λ (x y : ℕ). cond (eqb x 0) y x) n m
-    ∙ refusal-then (tests a (fit a)) (last a) (tt, (tt, (tt, (tt, (tt, (tt, (tt, (tt, tt)))))))))
+    let n = r .before .scratch-refusal .ensures ∙ ap (λ (n : ℕ). refusal (tests a (eqb k n))) (r .before .before .places .ensures) in
+    decides (tests a (fit a) ++ last a) _ 11 _ _ _ (tt, (tt, (tt, (tt, (tt, (tt, (tt, (tt, (tt, (tt, tt)))))))))) _
+    (search-refused (a .args .settings) (fit a) (lengths (planes a)) (fits a) (a .args .rounds) n (r .search-refusal .ensures))
 
 past : (e : tie.Else1) → let a = start (e .before) in Passed (a .args .settings) (fit a) (planes a) (trials a) (now (a .args .counters))
 past e =
@@ -90,21 +86,6 @@ work x =
 
 abbrev lent-from : tie.After-search-picture-arg → tie.After-prepare
 lent-from c = c .before .before .before .before .before .before
-
-places-requires : tie.Need-places-requires
-places-requires c κs = search needs
-
-scratch-refusal-requires : tie.Need-scratch-refusal-requires
-scratch-refusal-requires c κs = search needs
-
-is-between-requires : tie.Need-is-between-requires
-is-between-requires c κs = search needs
-
-select-requires : tie.Need-select-requires
-select-requires c κs = search needs
-
-select-requires-2 : tie.Need-select-requires-2
-select-requires-2 c κs = search needs
 
 returns : tie.Need-returns
 unfolding searchCall
@@ -146,12 +127,6 @@ search-picture-requires c κs =
     let w = work (lent-from (c .before .before .before .before)) in
     (ready w, eqb→eq _ _ (w .past .settings .choices-fit))
 
-clear-planes-requires : tie.Need-clear-planes-requires
-clear-planes-requires c κs = search needs
-
-found-requires : tie.Need-found-requires
-found-requires c κs = search needs
-
 returns-3 : tie.Need-returns-3
 unfolding searchCall
 returns-3 c =
@@ -171,11 +146,7 @@ pub search-spec : {M : Type 1} → statement M
 search-spec =
     tie.close
     (tie.spec
-    places-requires
-    scratch-refusal-requires
-    is-between-requires
-    select-requires
-    select-requires-2
+    (λ c κs. search needs) (λ c κs. search needs) (λ c κs. search needs)
     returns
     is-picture-requires
     returns-2
@@ -187,7 +158,6 @@ search-spec =
     slice-relend-prefix-search-picture-3
     slice-aggregate-search-picture-3
     search-picture-requires
-    clear-planes-requires
-    found-requires
+    (λ c κs. search needs) (λ c κs. search needs)
     (λ c. search needs) (λ c. search needs) (λ c. search needs) (λ c. search needs) (λ c. search needs)
     returns-3)

@@ -1,17 +1,8 @@
 use borrow.Author.Needs.{needs}
 use Rattle.rulantip.specs.Returned.{estimatedBy}
 use Rattle.rulantip.proofs.Answers.{returned-is}
-use Rattle.rulantip.proofs.rulantip_search.Statement.{statement}
-use Rattle.rulantip.proofs.rulantip_search.Tie as tie
-
-settings-requires : tie.Need-settings-requires
-settings-requires c κs = search needs
-
-search-requires : tie.Need-search-requires
-search-requires c κs = search needs
-
-returned-requires : tie.Need-returned-requires
-returned-requires c κs = search needs
+use Rattle.rulantip.proofs.searches.rulantip_search.Statement.{statement}
+use Rattle.rulantip.proofs.searches.rulantip_search.Tie as tie
 
 returns : tie.Need-returns
 returns c =
@@ -22,8 +13,6 @@ pub rulantip-search-spec : {M : Type 1} → statement M
 rulantip-search-spec =
     tie.close
     (tie.spec
-    settings-requires
-    search-requires
-    returned-requires
+    (λ c κs. search needs) (λ c κs. search needs) (λ c κs. search needs)
     (λ c. search needs) (λ c. search needs) (λ c. search needs) (λ c. search needs) (λ c. search needs)
     returns)

@@ -1,17 +1,8 @@
 use borrow.Author.Needs.{needs}
 use Rattle.rulantip.specs.Returned.{estimatedBy}
 use Rattle.rulantip.proofs.Answers.{returned-is}
-use Rattle.rulantip.proofs.rulantip_estimate.Statement.{statement}
-use Rattle.rulantip.proofs.rulantip_estimate.Tie as tie
-
-settings-requires : tie.Need-settings-requires
-settings-requires c κs = search needs
-
-estimate-requires : tie.Need-estimate-requires
-estimate-requires c κs = search needs
-
-returned-requires : tie.Need-returned-requires
-returned-requires c κs = search needs
+use Rattle.rulantip.proofs.searches.rulantip_estimate.Statement.{statement}
+use Rattle.rulantip.proofs.searches.rulantip_estimate.Tie as tie
 
 returns : tie.Need-returns
 returns c =
@@ -22,8 +13,6 @@ pub rulantip-estimate-spec : {M : Type 1} → statement M
 rulantip-estimate-spec =
     tie.close
     (tie.spec
-    settings-requires
-    estimate-requires
-    returned-requires
+    (λ c κs. search needs) (λ c κs. search needs) (λ c κs. search needs)
     (λ c. search needs) (λ c. search needs) (λ c. search needs) (λ c. search needs)
     returns)

@@ -2,8 +2,8 @@ use borrow.Author.Needs.{needs}
 use mathlib.Core.Path.{ap, _∙_}
 use Rattle.stage.specs.declared.Depths.{Depths}
 use Rattle.stage.specs.Search.{countersCall}
-use Rattle.rulantip.proofs.rulantip_counters.Statement.{statement}
-use Rattle.rulantip.proofs.rulantip_counters.Tie as tie
+use Rattle.rulantip.proofs.searches.rulantip_counters.Statement.{statement}
+use Rattle.rulantip.proofs.searches.rulantip_counters.Tie as tie
 
 depths-requires : tie.Need-depths-requires
 depths-requires c κs = search needs

@@ -1,8 +1,8 @@
 use borrow.Author.Needs.{needs}
 use mathlib.Core.Path.{sym, ap}
 use Rattle.rulantip.specs.Returned.{estimatedOf}
-use Rattle.rulantip.proofs.returned.Statement.{statement}
-use Rattle.rulantip.proofs.returned.Tie as tie
+use Rattle.rulantip.proofs.searches.returned.Statement.{statement}
+use Rattle.rulantip.proofs.searches.returned.Tie as tie
 
 enum-known-answer : tie.Need-enum-known-answer
 enum-known-answer c = search needs

@@ -1,0 +1,18 @@
+use borrow.Author.Needs.{needs}
+use Rattle.rulantip.specs.Returned.{estimatedBy}
+use Rattle.rulantip.proofs.Answers.{returned-is}
+use Rattle.rulantip.proofs.searches.rulantip_search_in_place.Statement.{statement}
+use Rattle.rulantip.proofs.searches.rulantip_search_in_place.Tie as tie
+
+returns : tie.Need-returns
+returns c =
+    let call = c .before .before .before .before .before .before .before .before in
+    returned-is estimatedBy (rw (call .before .before .before .before .before .before .settings .ensures) at (call .search .ensures)) (c .returned .ensures)
+
+pub rulantip-search-in-place-spec : {M : Type 1} → statement M
+rulantip-search-in-place-spec =
+    tie.close
+    (tie.spec
+    (λ c κs. search needs) (λ c κs. search needs) (λ c κs. search needs)
+    (λ c. search needs) (λ c. search needs) (λ c. search needs) (λ c. search needs) (λ c. search needs)
+    returns)
