@@ -53,6 +53,12 @@ two = triple (pos 0 ∷ pos 3 ∷ []) (pos 3 ∷ pos 1 ∷ []) (pos 1 ∷ pos 2 
 abbrev three : Planes
 three = triple (pos 1 ∷ pos 1 ∷ pos 1 ∷ []) (pos 1 ∷ pos 3 ∷ pos 1 ∷ []) (pos 3 ∷ pos 3 ∷ pos 3 ∷ [])
 
+-- 2 by 3, depth 2: two columns of one colour each in plane 1
+abbrev columns : Planes
+columns =
+    let black = replicate 6 (pos 0) in
+    triple (pos 0 ∷ pos 1 ∷ pos 0 ∷ pos 1 ∷ pos 0 ∷ pos 1 ∷ []) black black
+
 unfoldable pub estimateCases : List Case
 estimateCases =
     -- "RCT 0,0,0,0 256 2"; "longer is fine" and "After success all lent scratch is zero"
@@ -67,6 +73,9 @@ estimateCases =
     -- "LDgEb 0,0,0 256 2"
     ∷ (estimate (estimateCall (reported 3) picture (0 ∷ 0 ∷ 0 ∷ []) (scratch 2 2 2 1531 7 9))
     gives estimates 256 2 (scratch 2 2 2 1531 0 0))
+    -- by rows of two the residuals are 0 1 0 0 0 0, so 6 × L(6) − 5 × L(5) = 990 − 740; by rows of three they would be 0 1 −1 1 −1 1
+    ∷ (estimate (estimateCall (settingsOf 2 3 (each 2) 2) columns (12 ∷ 12 ∷ []) (scratch 6 6 6 13 7 9))
+    gives estimates 250 6 (scratch 6 6 6 13 0 0))
     ∷ []
 
 unfoldable pub searchCases : List Case
