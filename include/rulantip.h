@@ -166,7 +166,8 @@ extern "C" {
    their trials on the picture's own planes and undo what they did: when they return, the planes are as
    lent, after success and after a refusal. Estimate, N and filters are the same as with trial planes,
    for every picture. A search takes as long; an estimate undoes its steps, where the other call copies
-   the picture and clears the copy, and so takes longer with filters 1 to 11 and less with 0 and 12.
+   the picture and clears the copy, and so takes up to 1.6 times as long with filters 1 to 11, with filter
+   0 about as long or less, and with 12 less.
    Memory for the planes that a call needs, the counters' at most 1.8 MiB beside it:
 
                           with trial planes   in place
