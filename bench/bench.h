@@ -1,6 +1,7 @@
 /* The plain C that the library is timed against: same rules, same tests, same work on whole planes. */
 #ifndef BENCH_H
 #define BENCH_H
+#include "rulantip.h"
 #include <stddef.h>
 #include <stdint.h>
 
@@ -79,25 +80,32 @@ graymap plain_p5_read(const setting *s, uint32_t plane, const uint8_t *file, siz
                       size_t count);
 uint32_t plain_p6_planes(const uint8_t *file, size_t length, int32_t *const planes[3], size_t count);
 
+/* previews.c; the library's types, since one loop runs the calls of both */
+rulantip_preview plain_hvsct(uint32_t depth, int32_t r, int32_t g, int32_t b);
+rulantip_preview plain_ycocg(uint32_t depth, int32_t r, int32_t g, int32_t b);
+rulantip_rgb plain_preview_back(uint32_t depth, uint32_t space, double v1, double v2, double v3);
+
 /* cases.c */
 enum kind {
     TRANSFORM, WRAPPED_TRANSFORM, BANDED, WRAPPED_BANDED, ESTIMATE, SEARCH, ESTIMATE_IN_PLACE, SEARCH_IN_PLACE,
-    GRAYMAP, PIXMAP, KINDS
+    GRAYMAP, PIXMAP, PREVIEW, KINDS
 };
 /* bits of a set of calls, in the order of their names */
 enum call {
     FORWARD = 1, INVERSE = 2, FORWARD_WRAPPED = 4, INVERSE_WRAPPED = 8,
     FORWARD_BANDED = 16, INVERSE_BANDED = 32, FORWARD_WRAPPED_BANDED = 64, INVERSE_WRAPPED_BANDED = 128,
     ESTIMATES = 256, SEARCHES = 512, ESTIMATES_IN_PLACE = 1024, SEARCHES_IN_PLACE = 2048,
-    P5_WRITE = 4096, P5_READ = 8192, P6_PLANES = 16384
+    P5_WRITE = 4096, P5_READ = 8192, P6_PLANES = 16384,
+    TO_HVSCT = 32768, TO_YCOCG = 65536, PREVIEW_BACK = 131072
 };
-#define CALLS 15
+#define CALLS 18
 #define PLAIN_FORMS (FORWARD | INVERSE)
 #define WRAPPED_FORMS (FORWARD_WRAPPED | INVERSE_WRAPPED)
 #define BANDED_FORMS (FORWARD_BANDED | INVERSE_BANDED)
 #define WRAPPED_BANDED_FORMS (FORWARD_WRAPPED_BANDED | INVERSE_WRAPPED_BANDED)
 #define IN_PLACE (ESTIMATES_IN_PLACE | SEARCHES_IN_PLACE)
 #define GRAYMAPS (P5_WRITE | P5_READ | P6_PLANES)
+#define PREVIEWS (TO_HVSCT | TO_YCOCG | PREVIEW_BACK)
 #define INVERSES (INVERSE | INVERSE_WRAPPED | INVERSE_BANDED | INVERSE_WRAPPED_BANDED)
 #define MOST_MIXED 4
 #define MOST_BANDS 8192
@@ -142,4 +150,7 @@ void run_case(enum kind kind, const setting *s, const mix *m, uint32_t calls, ui
 /* graymap_cases.c */
 void allocate_files(size_t widest_square);
 void run_graymaps(size_t square, uint32_t calls, uint32_t turns);
+
+/* preview_cases.c */
+void run_previews(uint32_t calls, uint32_t turns);
 #endif

@@ -15,7 +15,7 @@
 const char *const call_names[CALLS] = {
     "forward", "inverse", "forward_wrapped", "inverse_wrapped",
     "forward_banded", "inverse_banded", "forward_wrapped_banded", "inverse_wrapped_banded", "estimate", "search",
-    "estimate_in_place", "search_in_place", "p5_write", "p5_read", "p6_planes"
+    "estimate_in_place", "search_in_place", "p5_write", "p5_read", "p6_planes", "hvsct", "ycocg", "preview_back"
 };
 const char *const transform_names[TRANSFORMS] = {"RCT", "YCoCg-R", "RDgDb", "LDgEb"};
 double worst_ratio[KINDS], worst_to_other[KINDS];

@@ -30,11 +30,13 @@ static const struct {
 static void usage(void)
 {
     fputs("options, with their defaults; lists have commas:\n"
-          "  -c forward,inverse,forward_wrapped,inverse_wrapped,banded,estimate,search,in_place,graymaps\n"
+          "  -c forward,inverse,forward_wrapped,inverse_wrapped,banded,estimate,search,in_place,graymaps,previews\n"
           "                   banded is forward_banded,inverse_banded,forward_wrapped_banded,inverse_wrapped_banded;\n"
           "                   in_place is estimate_in_place,search_in_place; column \"to other\" has a banded call's\n"
           "                   ratio to the plain one, and that of a call in place to the one with trial planes;\n"
-          "                   graymaps is p5_write,p5_read,p6_planes, with depths and planes of their own\n"
+          "                   graymaps is p5_write,p5_read,p6_planes, with depths and planes of their own;\n"
+          "                   previews is hvsct,ycocg,preview_back, in ns a pixel, with depths of their own: back\n"
+          "                   from right pixels, from ones with a float next to the right one, and from odd ones\n"
           "  -t 0,1,2,3       transforms\n"
           "  -f 0,1,5,11,12   filters, each at all places; banded calls also with filters that differ: place p of\n"
           "                   band i has number (i + p) modulo 4 of 1,3,5,11 (means) or of 0,1,5,12 (mixed)\n"
@@ -72,6 +74,8 @@ static uint32_t call_named(const char *word)
         return IN_PLACE;
     if (!strcmp(word, "graymaps"))
         return GRAYMAPS;
+    if (!strcmp(word, "previews"))
+        return PREVIEWS;
     for (uint32_t i = 0; i < CALLS; i++)
         if (!strcmp(word, call_names[i]))
             return 1u << i;
@@ -137,7 +141,7 @@ static void run_setting(const setting *s, const numbers *filters, uint32_t band_
 
 static const char *const kind_names[KINDS] = {
     "transforms", "wrapped", "banded", "wrapped_banded", "estimates", "searches", "estimates_in_place",
-    "searches_in_place", "graymaps", "pixmaps"
+    "searches_in_place", "graymaps", "pixmaps", "previews"
 };
 
 static void print_worst(void)
@@ -163,7 +167,7 @@ typedef struct {
 
 static options read_options(int argc, char **argv)
 {
-    uint32_t calls = PLAIN_FORMS | WRAPPED_FORMS | ALL_BANDED | ESTIMATES | SEARCHES | IN_PLACE | GRAYMAPS;
+    uint32_t calls = PLAIN_FORMS | WRAPPED_FORMS | ALL_BANDED | ESTIMATES | SEARCHES | IN_PLACE | GRAYMAPS | PREVIEWS;
     options o = {{{0, 1, 2, 3}, 4}, {{0, 1, 5, 11, 12}, 5}, {{8}, 1}, {{512, 2048}, 2}, calls, 0, 64, 0};
     int letter;
     while ((letter = getopt(argc, argv, "c:t:f:d:s:b:r:ah")) != -1)
@@ -200,20 +204,35 @@ static void run_size(const options *o, uint32_t size)
         run_graymaps(size, calls, o->turns);
 }
 
+static void print_header(const char *filters, const char *library, const char *plain)
+{
+    printf("%-31s %5s %5s %6s %11s %11s %6s %9s %8s\n", "call", "size", "depth", filters, library, plain, "ratio",
+           "to memcpy", "to other");
+}
+
+static void run_pictures(const options *o)
+{
+    uint32_t most = 0;
+    for (uint32_t i = 0; i < o->sizes.count; i++)
+        most = o->sizes.list[i] > most ? o->sizes.list[i] : most;
+    allocate(most, o->calls & (ALL_BANDED | IN_PLACE) ? OTHER + 1 : LIBRARY + 1);
+    if (o->calls & GRAYMAPS)
+        allocate_files(most);
+    fill_logarithms();
+    print_header("filter", "library ms", "C ms");
+    for (uint32_t i = 0; i < o->sizes.count; i++)
+        run_size(o, o->sizes.list[i]);
+}
+
 int main(int argc, char **argv)
 {
     options o = read_options(argc, argv);
-    uint32_t most = 0;
-    for (uint32_t i = 0; i < o.sizes.count; i++)
-        most = o.sizes.list[i] > most ? o.sizes.list[i] : most;
-    allocate(most, o.calls & (ALL_BANDED | IN_PLACE) ? OTHER + 1 : LIBRARY + 1);
-    if (o.calls & GRAYMAPS)
-        allocate_files(most);
-    fill_logarithms();
-    printf("%-31s %5s %5s %6s %11s %11s %6s %9s %8s\n", "call", "size", "depth", "filter", "library ms", "C ms",
-           "ratio", "to memcpy", "to other");
-    for (uint32_t i = 0; i < o.sizes.count; i++)
-        run_size(&o, o.sizes.list[i]);
+    if (o.calls & ~PREVIEWS)
+        run_pictures(&o);
+    if (o.calls & PREVIEWS) {
+        print_header("pixels", "library ns", "C ns");
+        run_previews(o.calls, o.turns);
+    }
     print_worst();
     return 0;
 }

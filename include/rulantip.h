@@ -1,6 +1,6 @@
 /* The colour stage of a material capture library: four reversible colour transforms with a filter in
-   each lifting step, an entropy estimate, a filter search, a reader of P6 pixmaps, and finished planes
-   as P5 graymaps.
+   each lifting step, an entropy estimate, a filter search, a reader of P6 pixmaps, finished planes as
+   P5 graymaps, and pixels of two lossy spaces for viewers.
 
    Link with target/staticlib/librulantip.a, which `rt staticlib rulantip` proves and writes.
 
@@ -74,6 +74,12 @@
    pixel with d pixels of the part between it and each side that was cut; the picture's own border is
    no cut.
 
+   PREVIEWS, pixels for viewers, hold three floats of one of two spaces of lossy coding. Divisions are
+   exact here: four times each float is a whole number, at every depth.
+
+     1  HVSCT    Y = (R + G)/2; Cd = (R - G)/2; Ce = B/2 - R/4 - G/4
+     2  YCoCg    Y = R/4 + G/2 + B/4; Co = (R - B)/2; Cg = G/2 - R/4 - B/4
+
    WHAT THE CALLER OWES, and no call can test:
    - Each pointer points to as many elements as the length after it says. For length 0 any pointer
      will do, also a null pointer.
@@ -104,6 +110,10 @@ extern "C" {
 #define RULANTIP_RDGDB 2
 #define RULANTIP_LDGEB 3
 
+/* The spaces of preview pixels. */
+#define RULANTIP_HVSCT 1
+#define RULANTIP_YCOCG 2
+
 /* Refusals that whoever made a P6 or P5 file can cause. */
 #define RULANTIP_REFUSED_HEADER 1        /* the header does not have the form of P6, of P5 in a graymap */
 #define RULANTIP_REFUSED_SIZE 2          /* width or height outside 1 to 8,192; also the calling program */
@@ -113,7 +123,7 @@ extern "C" {
                                             header, in a graymap of width * height */
 
 /* Refusals that the calling program can cause, with number 2. */
-#define RULANTIP_REFUSED_DEPTH 5         /* any of the three depths outside 2 to 16 */
+#define RULANTIP_REFUSED_DEPTH 5         /* any of the depths outside 2 to 16 */
 #define RULANTIP_REFUSED_TRANSFORM 6     /* transform above 3, or the number of a plane outside 1 to 3 */
 #define RULANTIP_REFUSED_CHOICES 7       /* not one choice for each place, with bands not one for each place
                                             of each band, or a choice above 12 */
@@ -131,6 +141,10 @@ extern "C" {
                                             of the planes that a wrapped form's inverse is lent */
 #define RULANTIP_REFUSED_UNREACHED 12    /* planes that no picture of these depths goes to; of a graymap, read
                                             or written, a number outside the plane's range */
+
+/* A refusal that whoever made a preview pixel can cause. */
+#define RULANTIP_REFUSED_PREVIEW 15      /* no samples of this depth have these floats, or there is no such
+                                            space */
 
 /* RANGES of finished planes, under any choices; in a wrapped form they are 0 to M. M1, M2 and M3 are
    the highest samples of planes 1, 2 and 3, divisions round down, max is the greater of two;
@@ -543,6 +557,52 @@ rulantip_graymap rulantip_p5_read(
     size_t file_len,        /* its length in bytes */
     int32_t *samples,       /* receives the plane */
     size_t samples_len      /* width * height of the file */
+);
+
+/* A preview pixel, or a refusal. */
+typedef struct {
+    uint32_t refusal;       /* 0, or the refusal's number */
+    uint32_t space;         /* RULANTIP_HVSCT or RULANTIP_YCOCG; 0 beside a refusal */
+    double v1;              /* Y */
+    double v2;              /* Cd, or Co */
+    double v3;              /* Ce, or Cg */
+} rulantip_preview;
+
+/* The HVSCT pixel of three samples. Tests, in this order: 5, 11. The floats are exact. Which zero a
+   float that is 0 will be, 0.0 or -0.0, is left open. */
+rulantip_preview rulantip_hvsct(
+    uint32_t depth,         /* b of all three, 2 to 16 */
+    int32_t r,              /* 0 to M */
+    int32_t g,              /* 0 to M */
+    int32_t b               /* 0 to M */
+);
+
+/* The YCoCg pixel of three samples. Tests and floats as in rulantip_hvsct. */
+rulantip_preview rulantip_ycocg(
+    uint32_t depth,         /* b of all three, 2 to 16 */
+    int32_t r,              /* 0 to M */
+    int32_t g,              /* 0 to M */
+    int32_t b               /* 0 to M */
+);
+
+/* Three samples, or a refusal. */
+typedef struct {
+    uint32_t refusal;       /* 0, or the refusal's number */
+    int32_t r;              /* 0 to M */
+    int32_t g;              /* 0 to M */
+    int32_t b;              /* 0 to M */
+} rulantip_rgb;
+
+/* Back from a pixel of either space. Tests, in this order: 5, 15. After success the samples are the one
+   triple of this depth that has these floats. It refuses with 15 exactly where there is none: one float
+   next to the right one, an infinity or a NaN is enough. Floats are compared as numbers, so that 0.0 and
+   -0.0 are the same. Any other space is 15 too, and so is what a refused call returned. */
+rulantip_rgb rulantip_preview_back(
+    uint32_t depth,         /* b of all three, 2 to 16 */
+    uint32_t space,         /* RULANTIP_HVSCT or RULANTIP_YCOCG */
+    double v1,              /* as in rulantip_preview */
+    double v2,
+    double v3
 );
 
 #ifdef __cplusplus

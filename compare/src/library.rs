@@ -24,13 +24,14 @@ pub enum Refusal {
     Unreached = 12,
     Wide = 13,
     Buffer = 14,
+    Preview = 15,
     Unequal = 16,
     Band = 17,
 }
 
 impl Refusal {
     /// Every refusal, in the order of the numbers.
-    pub const ALL: [Refusal; 16] = [
+    pub const ALL: [Refusal; 17] = [
         Refusal::Header,
         Refusal::Size,
         Refusal::Maxval,
@@ -45,6 +46,7 @@ impl Refusal {
         Refusal::Unreached,
         Refusal::Wide,
         Refusal::Buffer,
+        Refusal::Preview,
         Refusal::Unequal,
         Refusal::Band,
     ];
@@ -71,6 +73,7 @@ impl fmt::Display for Refusal {
             Refusal::Unreached => "no picture goes to these planes, or a graymap's sample is outside its plane's range",
             Refusal::Wide => "the plane's highest number less its lowest is above 65,535",
             Refusal::Buffer => "the buffer is shorter than the file",
+            Refusal::Preview => "no pixel of the depth has these floats in the space, or there is no such space",
             Refusal::Unequal => "the three depths differ",
             Refusal::Band => "the band height is 0 or above the picture's",
         })
@@ -125,6 +128,13 @@ pub struct FinishedPlane {
 pub struct Graymap {
     pub width: u32,
     pub height: u32,
+}
+
+/// A preview pixel in one of the two lossy spaces: Y, Cd and Ce, or Y, Co and Cg.
+#[derive(Clone, Copy, Debug, PartialEq)]
+pub enum Preview {
+    Hvsct([f64; 3]),
+    Ycocg([f64; 3]),
 }
 
 /// How many counters the estimate and the search need; None where they would refuse a depth or the transform.
@@ -361,6 +371,27 @@ pub fn read_graymap(of: FinishedPlane, file: &[u8], samples: &mut [i32]) -> Resu
     refusal(answer.refusal).map(|()| Graymap { width: answer.width, height: answer.height })
 }
 
+/// The preview pixel of R, G and B in HVSCT, exact.
+pub fn hvsct(depth: u32, samples: [i32; 3]) -> Result<Preview, Refusal> {
+    preview(c::rulantip_hvsct, depth, samples)
+}
+
+/// The preview pixel of R, G and B in YCoCg, exact.
+pub fn ycocg(depth: u32, samples: [i32; 3]) -> Result<Preview, Refusal> {
+    preview(c::rulantip_ycocg, depth, samples)
+}
+
+/// R, G and B of the one pixel of this depth that has the preview pixel. -0.0 does for 0.0.
+pub fn preview_back(depth: u32, pixel: Preview) -> Result<[i32; 3], Refusal> {
+    let (space, [v1, v2, v3]) = match pixel {
+        Preview::Hvsct(values) => (1, values),
+        Preview::Ycocg(values) => (2, values),
+    };
+    // SAFETY: the function is given numbers alone.
+    let answer = unsafe { c::rulantip_preview_back(depth, space, v1, v2, v3) };
+    refusal(answer.refusal).map(|()| [answer.r, answer.g, answer.b])
+}
+
 fn refusal(number: u32) -> Result<(), Refusal> {
     if number == 0 {
         return Ok(());
@@ -371,6 +402,18 @@ fn refusal(number: u32) -> Result<(), Refusal> {
 
 fn estimated(answer: c::RulantipEstimated) -> Result<Estimated, Refusal> {
     refusal(answer.refusal).map(|()| Estimated { estimate: answer.estimate, samples: answer.samples })
+}
+
+fn preview(call: c::ToPreview, depth: u32, [r, g, b]: [i32; 3]) -> Result<Preview, Refusal> {
+    // SAFETY: the function is given numbers alone.
+    let answer = unsafe { call(depth, r, g, b) };
+    refusal(answer.refusal)?;
+    let values = [answer.v1, answer.v2, answer.v3];
+    match answer.space {
+        1 => Ok(Preview::Hvsct(values)),
+        2 => Ok(Preview::Ycocg(values)),
+        other => panic!("{other} is no space"),
+    }
 }
 
 fn in_place(call: c::InPlace, settings: Settings, choices: &[u8], planes: [&mut [i32]; 3]) -> Result<(), Refusal> {
@@ -443,6 +486,25 @@ pub mod c {
         pub height: u32,
     }
 
+    #[repr(C)]
+    #[derive(Clone, Copy, Debug, PartialEq)]
+    pub struct RulantipPreview {
+        pub refusal: u32,
+        pub space: u32,
+        pub v1: f64,
+        pub v2: f64,
+        pub v3: f64,
+    }
+
+    #[repr(C)]
+    #[derive(Clone, Copy, Debug, PartialEq, Eq)]
+    pub struct RulantipRgb {
+        pub refusal: u32,
+        pub r: i32,
+        pub g: i32,
+        pub b: i32,
+    }
+
     /// The type of the four calls that change planes in place, without bands.
     #[rustfmt::skip]
     pub type InPlace = unsafe extern "C" fn(
@@ -458,6 +520,9 @@ pub mod c {
         *const u8, usize,
         *mut i32, usize, *mut i32, usize, *mut i32, usize,
     ) -> u32;
+
+    /// The type of the two calls that give a preview pixel.
+    pub type ToPreview = unsafe extern "C" fn(u32, i32, i32, i32) -> RulantipPreview;
 
     #[link(name = "rulantip", kind = "static")]
     #[rustfmt::skip]
@@ -567,5 +632,11 @@ pub mod c {
             file: *const u8, file_len: usize,
             samples: *mut i32, samples_len: usize,
         ) -> RulantipGraymap;
+
+        pub fn rulantip_hvsct(depth: u32, r: i32, g: i32, b: i32) -> RulantipPreview;
+
+        pub fn rulantip_ycocg(depth: u32, r: i32, g: i32, b: i32) -> RulantipPreview;
+
+        pub fn rulantip_preview_back(depth: u32, space: u32, v1: f64, v2: f64, v3: f64) -> RulantipRgb;
     }
 }

@@ -4,7 +4,7 @@
 use compare::generator;
 use compare::reference::{all_depths, counters, forward, forward_wrapped, graymap_file, places, ranges};
 use compare::reference::{pixmap_header, pixmap_planes, sample_bytes, search, search_in_place};
-use compare::reference::{Estimated, FinishedPlane, Found, Scratch, Settings, NAMES};
+use compare::reference::{Estimated, FinishedPlane, Found, Scratch, Settings, Space, NAMES};
 use std::fmt::Write;
 use std::fs;
 use std::path::{Path, PathBuf};
@@ -196,6 +196,42 @@ fn c_graymaps() {
     for (file, words) in REFUSED {
         fs::write(&picture, file).unwrap();
         let said = refused(&program, &[&picture, &prefix]);
+        assert!(said.contains(words), "{said}");
+    }
+}
+
+/// What `preview` prints: the least and the most of each float, told in quarters.
+fn previewed(file: &[u8]) -> String {
+    let (_, planes) = picture(file);
+    let mut text = String::new();
+    for (space, floats) in
+        [(Space::Hvsct, ["HVSCT Y", "HVSCT Cd", "HVSCT Ce"]), (Space::Ycocg, ["YCoCg Y", "YCoCg Co", "YCoCg Cg"])]
+    {
+        let quarters = (0..planes[0].len()).map(|i| space.quarters(planes.each_ref().map(|plane| plane[i].into())));
+        let quarters: Vec<[i64; 3]> = quarters.collect();
+        for (k, name) in floats.iter().enumerate() {
+            let decimals = |number: Option<i64>| format!("{:.2}", number.unwrap() as f64 / 4.0);
+            let [least, most] =
+                [quarters.iter().map(|q| q[k]).min(), quarters.iter().map(|q| q[k]).max()].map(decimals);
+            writeln!(text, "{name} {least} to {most}").unwrap();
+        }
+    }
+    writeln!(text, "all {} pixels came back", planes[0].len()).unwrap();
+    text
+}
+
+#[test]
+fn c_preview() {
+    let out = folder("preview");
+    build("c", &out);
+    let [program, picture] = ["preview", "picture.ppm"].map(|name| out.join(name));
+    for file in files() {
+        fs::write(&picture, &file).unwrap();
+        assert_eq!(printed(&program, &[&picture]), previewed(&file));
+    }
+    for (file, words) in REFUSED {
+        fs::write(&picture, file).unwrap();
+        let said = refused(&program, &[&picture]);
         assert!(said.contains(words), "{said}");
     }
 }

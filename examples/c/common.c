@@ -1,7 +1,5 @@
 #include "common.h"
 
-#include "rulantip.h"
-
 #include <stdio.h>
 #include <stdlib.h>
 #include <string.h>
@@ -22,7 +20,7 @@ static const char *const causes[18] = {
     "no picture goes to these planes, or a graymap's sample is outside its plane's range",
     "the plane's highest number less its lowest is above 65,535",
     "the buffer is shorter than the file",
-    NULL,
+    "no samples of this depth have these floats",
     "the three depths differ",
     "the band height is 0 or above the picture's",
 };
@@ -35,9 +33,9 @@ void stop(const char *what, const char *why)
 
 void stop_refused(const char *what, uint32_t refusal)
 {
-    const char *cause = refusal <= 17 ? causes[refusal] : NULL;
+    const char *cause = refusal <= 17 ? causes[refusal] : "no cause known";
 
-    fprintf(stderr, "%s: refused %u, %s\n", what, (unsigned)refusal, cause != NULL ? cause : "no cause known");
+    fprintf(stderr, "%s: refused %u, %s\n", what, (unsigned)refusal, cause);
     exit(1);
 }
 
@@ -74,6 +72,24 @@ uint8_t *read_file(const char *name, size_t *length)
         stop(name, "cannot be read");
     fclose(in);
     return bytes;
+}
+
+size_t read_planes(const char *name, const uint8_t *file, size_t length, rulantip_pixmap *picture, int32_t *planes[3])
+{
+    size_t samples;
+    uint32_t refusal;
+    int i;
+
+    *picture = rulantip_p6_header(file, length);
+    if (picture->refusal != 0)
+        stop_refused(name, picture->refusal);
+    samples = (size_t)picture->width * picture->height;
+    for (i = 0; i < 3; i++)
+        planes[i] = memory(samples, sizeof *planes[i]);
+    refusal = rulantip_p6_planes(file, length, planes[0], samples, planes[1], samples, planes[2], samples);
+    if (refusal != 0)
+        stop_refused(name, refusal);
+    return samples;
 }
 
 void compare(const char *name, const uint8_t *file, size_t length, const int32_t *c1, const int32_t *c2, const int32_t *c3,

@@ -3,7 +3,6 @@
    picture. */
 
 #include "common.h"
-#include "rulantip.h"
 
 #include <stdio.h>
 #include <stdlib.h>
@@ -89,16 +88,8 @@ int main(int argc, char **argv)
     if (argc != 3)
         stop("usage", "graymaps FILE.ppm PREFIX");
     file = read_file(argv[1], &length);
-    picture = rulantip_p6_header(file, length);
-    if (picture.refusal != 0)
-        stop_refused(argv[1], picture.refusal);
+    samples = read_planes(argv[1], file, length, &picture, planes);
     depth = picture.depth;
-    samples = (size_t)picture.width * picture.height;
-    for (i = 0; i < 3; i++)
-        planes[i] = memory(samples, sizeof *planes[i]);
-    refusal = rulantip_p6_planes(file, length, planes[0], samples, planes[1], samples, planes[2], samples);
-    if (refusal != 0)
-        stop_refused(argv[1], refusal);
 
     find_filters(&picture, planes, samples);
     refusal = rulantip_forward(picture.width, picture.height, depth, depth, depth, RULANTIP_RDGDB, choices, 2,

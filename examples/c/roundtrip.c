@@ -2,7 +2,6 @@
    the wrapped form, whose planes fit the file's bytes, and once in bands of rows, every second of which is left as it is. */
 
 #include "common.h"
-#include "rulantip.h"
 
 #include <stdio.h>
 #include <stdlib.h>
@@ -124,7 +123,7 @@ int main(int argc, char **argv)
 {
     size_t length, samples, counters, i;
     uint8_t *file;
-    int32_t *c1, *c2, *c3, *t1, *t2, *t3;
+    int32_t *planes[3], *c1, *c2, *c3, *t1, *t2, *t3;
     uint32_t *counter;
     uint8_t choices[4][4];
     uint32_t best = 0, lowest = 0, refusal, transform, depth;
@@ -133,19 +132,12 @@ int main(int argc, char **argv)
     if (argc != 2)
         stop("usage", "roundtrip FILE.ppm");
     file = read_file(argv[1], &length);
-    picture = rulantip_p6_header(file, length);
-    if (picture.refusal != 0)
-        stop_refused(argv[1], picture.refusal);
+    samples = read_planes(argv[1], file, length, &picture, planes);
+    c1 = planes[0];
+    c2 = planes[1];
+    c3 = planes[2];
     depth = picture.depth; /* a P6 file has one for all three planes */
     printf("width %u height %u depth %u\n", (unsigned)picture.width, (unsigned)picture.height, (unsigned)depth);
-
-    samples = (size_t)picture.width * picture.height;
-    c1 = memory(samples, sizeof *c1);
-    c2 = memory(samples, sizeof *c2);
-    c3 = memory(samples, sizeof *c3);
-    refusal = rulantip_p6_planes(file, length, c1, samples, c2, samples, c3, samples);
-    if (refusal != 0)
-        stop_refused(argv[1], refusal);
 
     /* Scratch: three trial planes, and counters that are enough for every transform. */
     t1 = memory(samples, sizeof *t1);

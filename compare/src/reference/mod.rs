@@ -2,7 +2,8 @@
 //!
 //! Every call takes what the caller lends by value or as lengths and gives the refusal's number,
 //! or what the lent memory holds afterwards. Every number is an `i64`, which nothing here exceeds:
-//! a sample is below 2^31 and no step more than doubles or triples it.
+//! a sample is below 2^31 and no step more than doubles or triples it. Floats of any size, which
+//! preview pixels may be handed in with, take an `i128` at one place.
 
 mod calls;
 mod entropy;
@@ -10,6 +11,7 @@ mod filter;
 mod graymap;
 mod header;
 mod pixmap;
+mod preview;
 mod ranges;
 mod report;
 mod transform;
@@ -23,6 +25,8 @@ mod depth_cases;
 #[cfg(test)]
 mod file_cases;
 #[cfg(test)]
+mod preview_cases;
+#[cfg(test)]
 mod wrapped_cases;
 
 pub use calls::{estimate, estimate_in_place, search, search_in_place};
@@ -33,6 +37,7 @@ pub use filter::{filtered_at, window};
 pub use graymap::{graymap_file, graymap_plane, FinishedPlane, Graymap};
 pub use header::sample_bytes;
 pub use pixmap::{pixmap_header, pixmap_planes, Header};
+pub use preview::{preview, preview_back, quarters, Space, SPACES};
 pub use ranges::{all_depths, are_depths, counters, greatest, is_side, ranges, Interval};
 pub use report::{report, NAMES};
 pub use transform::{places, run, undo, Form, TRANSFORMS};
@@ -41,5 +46,5 @@ pub use transform::{places, run, undo, Form, TRANSFORMS};
 pub type Plane = Vec<i64>;
 pub type Planes = [Plane; 3];
 
-/// The number that tells why a call refuses, 1 to 14, 16 or 17.
+/// The number that tells why a call refuses, 1 to 17.
 pub type RefusalNumber = u32;

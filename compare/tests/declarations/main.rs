@@ -3,7 +3,7 @@
 
 mod parse;
 
-use compare::reference::{counters, NAMES};
+use compare::reference::{counters, NAMES, SPACES};
 use parse::{c_header, constants, rattle_source, refusals, rust_module, Face};
 use std::fs;
 use std::path::{Path, PathBuf};
@@ -49,16 +49,16 @@ fn header_is_as_the_rust_module() {
     let header = c_header(&text("include/rulantip.h")).unwrap();
     let module = rust_module(&text("compare/src/library.rs")).unwrap();
     assert_eq!(header.differs(&module), None);
-    assert_eq!(header.functions.len(), 17);
-    assert_eq!(header.structs.len(), 4);
+    assert_eq!(header.functions.len(), 20);
+    assert_eq!(header.structs.len(), 6);
 }
 
-/// The numbers that the header defines: refusals, transforms, counters.
+/// The numbers that the header defines: refusals, transforms, spaces, counters.
 #[test]
 fn constants_of_the_header() {
     let mut constants = constants(&text("include/rulantip.h"));
     let refusals = refusals(&text("compare/src/library.rs"));
-    assert_eq!(refusals.len(), 16);
+    assert_eq!(refusals.len(), 17);
     for (name, number) in refusals {
         let name = format!("RULANTIP_REFUSED_{}", name.to_uppercase());
         assert_eq!(constants.remove(&name), Some(number), "{name}");
@@ -66,6 +66,10 @@ fn constants_of_the_header() {
     for (name, number) in NAMES.iter().zip(0..) {
         let name = format!("RULANTIP_{}", name.to_uppercase().replace('-', "_"));
         assert_eq!(constants.remove(&name), Some(number), "{name}");
+    }
+    for space in SPACES {
+        let name = format!("RULANTIP_{space:?}").to_uppercase();
+        assert_eq!(constants.remove(&name), Some(space.number().into()), "{name}");
     }
     let most = (0..4).map(|transform| counters([16; 3], transform)).max().unwrap();
     assert_eq!(constants.remove("RULANTIP_COUNTERS_MAX"), Some(most as u64));
@@ -80,6 +84,7 @@ const SOURCE: &str = r#"
     pub struct RulantipPair {
         pub refusal: u32,
         pub count: u32,
+        pub share: f64,
     }
 
     fn inner(s: &[u8]) -> u32
@@ -92,11 +97,11 @@ const SOURCE: &str = r#"
     pub extern "C" fn rulantip_pair<'a>(width: u32, choices: &'a [u8], c1: &mut [i32], counters: &mut [u32]) -> RulantipPair
         ensures { λ r. ⌜ r ≡ pair { width } ⌝ }
     {
-        RulantipPair { refusal: 0, count: 1 }
+        RulantipPair { refusal: 0, count: 1, share: 0.5 }
     }
 
     #[no_mangle]
-    pub extern "C" fn rulantip_none(file: &[u8])
+    pub extern "C" fn rulantip_none(file: &[u8], weight: f64)
     {
     }
 "#;
@@ -105,23 +110,23 @@ const HEADER: &str = "
     #ifdef __cplusplus
     extern \"C\" {
     #endif
-    typedef struct { uint32_t refusal, count; } rulantip_pair; /* a pair; */
+    typedef struct { uint32_t refusal, count; double share; } rulantip_pair; /* a pair; */
     rulantip_pair rulantip_pair(uint32_t width, const uint8_t *choices, size_t choices_len,
         int32_t *c1, size_t c1_len, uint32_t *counters, size_t counters_len);
-    void rulantip_none(const uint8_t *file, size_t file_len); // nothing
+    void rulantip_none(const uint8_t *file, size_t file_len, double weight); // nothing
 ";
 
 const MODULE: &str = r#"
     #[repr(C)]
     #[derive(Clone, Copy)]
-    pub struct RulantipPair { pub refusal: u32, pub count: u32 }
+    pub struct RulantipPair { pub refusal: u32, pub count: u32, pub share: f64 }
 
     pub struct Other { pub a: u8 }
 
     extern "C" {
         pub fn rulantip_pair(width: u32, choices: *const u8, choices_len: usize, c1: *mut i32, c1_len: usize,
             counters: *mut u32, counters_len: usize) -> RulantipPair;
-        pub fn rulantip_none(file: *const u8, file_len: usize);
+        pub fn rulantip_none(file: *const u8, file_len: usize, weight: f64);
     }
 "#;
 
@@ -152,7 +157,11 @@ fn changed_declarations_are_found() {
         ("rulantip_pair rulantip_pair(", "uint32_t rulantip_pair("),
         ("void rulantip_none", "uint32_t rulantip_none"),
         ("rulantip_none(", "rulantip_nothing("),
-        ("size_t file_len);", "size_t file_len, uint32_t more);"),
+        ("double weight);", "double weight, uint32_t more);"),
+        ("double weight", "float weight"),
+        ("double weight", "uint32_t weight"),
+        ("double share", "float share"),
+        ("double share", "uint32_t share"),
         ("// nothing", "void rulantip_more(uint32_t width);"),
     ] {
         let changed = HEADER.replace(old, new);
@@ -165,6 +174,8 @@ fn changed_declarations_are_found() {
         ("*const u8, choices_len", "*mut u8, choices_len"),
         ("c1: *mut i32", "c1: *mut u32"),
         ("width: u32, ", ""),
+        ("share: f64", "share: f32"),
+        ("weight: f64", "weight: u64"),
         ("#[repr(C)]", ""),
         (") -> RulantipPair", ") -> u32"),
     ] {
@@ -180,7 +191,9 @@ fn changed_declarations_are_found() {
         ("pub refusal: u32,\n", ""),
         ("#[no_mangle]\n    pub extern \"C\" fn rulantip_none", "pub fn rulantip_none"),
         ("    ensures { λ r. ⌜ r ≡ pair", "    requires { ⌜ width < 5 ⌝ } ensures { λ r. ⌜ r ≡ pair"),
-        ("file: &[u8])", "file: &[u8; 4])"),
+        ("file: &[u8],", "file: &[u8; 4],"),
+        ("share: f64", "share: f32"),
+        (", weight: f64", ""),
     ] {
         let changed = SOURCE.replace(old, new);
         assert_ne!(changed, SOURCE, "{old}");

@@ -209,6 +209,7 @@ fn c_type(tokens: &mut Tokens) -> Result<String, String> {
         "int32_t" => "i32",
         "uint32_t" => "u32",
         "size_t" => "usize",
+        "double" => "f64",
         "void" => "()",
         name if name.starts_with("rulantip_") => name,
         _ => return Err(format!("a type not known: {name} {}", tokens.context())),

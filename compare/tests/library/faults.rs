@@ -7,7 +7,7 @@ use std::fmt::Display;
 
 /// Widths and heights that are refused, depths, and transforms.
 pub const SIDES: [u32; 5] = [0, 8193, 65_536, 1 << 31, u32::MAX];
-const DEPTHS: [u32; 8] = [0, 1, 17, 31, 32, 34, 256 + 8, u32::MAX];
+pub const DEPTHS: [u32; 8] = [0, 1, 17, 31, 32, 34, 256 + 8, u32::MAX];
 const TRANSFORMS: [u32; 5] = [4, 5, 256, 1 << 16, u32::MAX];
 
 /// A fault in a case and the refusal that it causes.

@@ -23,6 +23,8 @@ mod inverses;
 mod lent;
 mod locality;
 mod pixmaps;
+mod preview_refusals;
+mod previews;
 mod random;
 mod refusals;
 mod same;

@@ -3,12 +3,13 @@
 use crate::files::pixmap;
 use crate::graymaps::through_files;
 use crate::library;
+use crate::previews::pixel;
 use crate::random::{self, each_round};
 use crate::same::{Case, Estimator};
 use crate::transforms::there_and_back;
 use crate::wrapped;
 use compare::generator;
-use compare::reference::{self, Scratch, Settings};
+use compare::reference::{self, Scratch, Settings, SPACES};
 use std::sync::Barrier;
 use std::thread;
 
@@ -48,6 +49,9 @@ impl Known {
         self.case.both_estimates();
         for file in &self.files {
             pixmap(file, b"", [0; 3], &self.case.origin);
+        }
+        for space in SPACES {
+            pixel(space, 8, self.case.planes.each_ref().map(|plane| plane[0])).there_and_back();
         }
     }
 }

@@ -1,6 +1,6 @@
 //! The safe module over the C functions gives what they give.
 
-use crate::library::{self, Estimated, FinishedPlane, Graymap, Refusal, Scratch, Settings};
+use crate::library::{self, Estimated, FinishedPlane, Graymap, Preview, Refusal, Scratch, Settings};
 
 const SETTINGS: Settings = Settings { width: 2, height: 1, depths: [5, 7, 4], transform: 2 };
 const PICTURE: Planes = [[10, 20], [100, 101], [7, 9]];
@@ -235,7 +235,24 @@ fn refused_graymaps() {
 }
 
 #[test]
+fn previews() {
+    let pixel = [10, 200, 60];
+    let [hvsct, ycocg] = [Preview::Hvsct([105.0, -95.0, -22.5]), Preview::Ycocg([117.5, -25.0, 82.5])];
+    assert_eq!((library::hvsct(8, pixel), library::ycocg(8, pixel)), (Ok(hvsct), Ok(ycocg)));
+    assert_eq!([hvsct, ycocg].map(|preview| library::preview_back(8, preview)), [Ok(pixel); 2]);
+    for call in [library::hvsct, library::ycocg] {
+        assert_eq!(call(7, pixel), Err(Refusal::Sample));
+        assert_eq!(call(1, pixel), Err(Refusal::Depth));
+    }
+    assert_eq!([hvsct, ycocg].map(|preview| library::preview_back(7, preview)), [Err(Refusal::Preview); 2]);
+    assert_eq!([hvsct, ycocg].map(|preview| library::preview_back(17, preview)), [Err(Refusal::Depth); 2]);
+    assert_eq!(library::preview_back(8, Preview::Hvsct([105.0, -95.0, f64::NAN])), Err(Refusal::Preview));
+    assert_eq!(library::preview_back(8, Preview::Ycocg([105.0, -95.0, -22.5])), Err(Refusal::Preview));
+    assert_eq!(library::preview_back(8, Preview::Ycocg([-0.0; 3])), Ok([0; 3]));
+}
+
+#[test]
 fn refusals_by_number() {
-    assert_eq!(Refusal::ALL.map(Refusal::number), [1, 2, 3, 4, 5, 6, 7, 8, 9, 10, 11, 12, 13, 14, 16, 17]);
+    assert_eq!(Refusal::ALL.map(Refusal::number), [1, 2, 3, 4, 5, 6, 7, 8, 9, 10, 11, 12, 13, 14, 15, 16, 17]);
     assert!(Refusal::ALL.iter().all(|refusal| !refusal.to_string().is_empty()));
 }
