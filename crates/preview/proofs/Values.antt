@@ -9,8 +9,10 @@ use Rattle.integers.specs.Parts.{floorDiv}
 use Rattle.integers.proofs.Booleans.{holds-true, and-iff}
 use Rattle.integers.proofs.FloorDivision.{floorDiv-out}
 use Rattle.integers.proofs.Linear.{eq-lin, flat, count}
-use Rattle.stage.specs.Planes.{Triple, triple}
+use Rattle.stage.specs.declared.Plane.{Plane}
+use Rattle.stage.specs.Planes.{Triple, get}
 use Rattle.stage.specs.Estimate.{sameNumber}
+use Rattle.stage.proofs.Triples.{each-plane, triple-ext}
 use Rattle.stage.proofs.Prediction.{same-equal, same-itself}
 use Rattle.preview.specs.declared.Rgb.{Rgb}
 use Rattle.preview.specs.Spaces.{Space, HVSCT, YCoCg, quarters, rgbOf, samples}
@@ -24,8 +26,7 @@ same-rgb {s} {t} p q u =
     ap (λ (z : ℤ). rgbOf z (s .g) (s .b)) p ∙ ap (λ (z : ℤ). rgbOf (t .r) z (s .b)) q ∙ ap (λ (z : ℤ). rgbOf (t .r) (t .g) z) u
 
 three-same : {q t : Triple ℤ} → q .c1 ≡ t .c1 → q .c2 ≡ t .c2 → q .c3 ≡ t .c3 → q ≡ t
-three-same {q} {t} p r u =
-    ap (λ (z : ℤ). triple z (q .c2) (q .c3)) p ∙ ap (λ (z : ℤ). triple (t .c1) z (q .c3)) r ∙ ap (λ (z : ℤ). triple (t .c1) (t .c2) z) u
+three-same {q} {t} p r u = triple-ext (each-plane (λ (c : Plane). get q c ≡ get t c) p r u)
 
 pub same-three : (q t : Triple ℤ) → T (sameThree q t) → q ≡ t
 same-three q t h =
