@@ -86,6 +86,8 @@
    - No two lent pieces of memory overlap where the call may write to one of them (a parameter that
      is not const). Pieces that are only read may overlap.
    - Nobody else writes to lent memory, or reads what the call may write, while the call runs.
+   - The thread's floating point is in its default mode where a call makes or takes preview pixels. With
+     denormals taken for zero, as some engines set it, a denormal float goes back as 0 and is not refused.
 
    THREADS: no call keeps anything, allocates, or has any state of its own. Any number of threads
    may call at once on different memory; memory that is only read may be the same.

@@ -1,12 +1,16 @@
 use borrow.Author.Needs.{needs}
-use mathlib.Core.Path.{refl}
+use mathlib.Core.Path.{_≡_, refl}
+use mathlib.Core.Bool.{false}
 use Rattle.integers.proofs.Booleans.{held, failed}
+use Rattle.stage.specs.Answers.{between}
 use Rattle.preview.proofs.Found.{depth-most}
 use Rattle.preview.proofs.forward.sample_refusal.Statement.{statement}
 use Rattle.preview.proofs.forward.sample_refusal.Tie as tie
 
 returns : tie.Need-returns
-returns c = rw (failed (c .before .is-between .ensures) (c .if1 .taken)) refl
+returns c =
+    let wrong : between 2 16 (c .before .before .args .depth) ≡ false = failed (c .before .is-between .ensures) (c .if1 .taken) in
+    rw wrong refl
 
 are-samples-requires : tie.Need-are-samples-requires
 are-samples-requires c κs = depth-most _ (held (c .before .is-between .ensures) (c .if1 .left))
