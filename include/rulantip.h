@@ -370,7 +370,16 @@ uint32_t rulantip_inverse_wrapped_banded(
     size_t c3_len
 );
 
-/* The answer of the estimate and the search. */
+/* The answer of the estimate and the search.
+
+   To compare pictures of different sizes, divide by the counted samples: estimate / samples, which C
+   rounds down, is how many sixty-fourths of a bit a pixel takes, its three numbers together, and
+   estimate % samples is the rest. They are the fields `each` and `rest` of the report. After success
+   samples is not 0.
+
+   The estimate of a plane differs by less than samples from 64 * samples times the exact memoryless
+   entropy, in bits, of its counted residuals; so the estimate here, of three planes, by less than
+   3 * samples from 64 * samples times the sum of the three: by less than 3/64 of a bit a pixel. */
 typedef struct {
     uint32_t refusal;       /* 0, or the refusal's number */
     uint32_t estimate;      /* of the three finished planes together, in sixty-fourths of a bit */

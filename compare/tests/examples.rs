@@ -3,8 +3,8 @@
 
 use compare::generator;
 use compare::reference::{all_depths, counters, forward, forward_wrapped, graymap_file, places, ranges};
-use compare::reference::{pixmap_header, pixmap_planes, sample_bytes, search, search_in_place};
-use compare::reference::{Estimated, FinishedPlane, Found, Scratch, Settings, Space, NAMES};
+use compare::reference::{pixmap_header, pixmap_planes, report, report_line, sample_bytes, search, search_in_place};
+use compare::reference::{FinishedPlane, Scratch, Settings, Space, NAMES, REPORT_HEAD};
 use std::fmt::Write;
 use std::fs;
 use std::path::{Path, PathBuf};
@@ -55,25 +55,18 @@ fn picture(file: &[u8]) -> ([u32; 3], [Vec<i32>; 3]) {
     ([header.width, header.height, header.depth], pixmap_planes(file, [samples; 3]).unwrap())
 }
 
-/// What an example prints of a search.
-fn search_line(transform: &str, found: &Found) -> String {
-    let filters: Vec<String> = found.filters.iter().map(u8::to_string).collect();
-    let Estimated { estimate, samples } = found.estimated;
-    format!("{transform} {} {estimate} {samples}\n", filters.join(","))
-}
-
 /// What the example prints for a file with no fault.
 fn expected(file: &[u8]) -> String {
     let ([width, height, depth], planes) = picture(file);
     let planes = planes.each_ref().map(Vec::as_slice);
     let samples = planes[0].len();
-    let mut text = format!("width {width} height {height} depth {depth}\ntransform filters estimate samples\n");
+    let mut text = format!("width {width} height {height} depth {depth}\n{REPORT_HEAD}");
     let mut best: Option<(u32, Settings, Vec<u8>)> = None;
     for (transform, name) in (0..4).zip(NAMES) {
         let settings = Settings { width, height, depths: [depth; 3], transform };
         let scratch = Scratch { trial: [samples; 3], counters: usize::MAX };
         let found = search(settings, 2, places(transform), planes, scratch).unwrap();
-        text += &search_line(name, &found);
+        text += &report_line(name, &found);
         let estimate = found.estimated.estimate;
         if best.as_ref().is_none_or(|(lowest, ..)| estimate < *lowest) {
             best = Some((estimate, settings, found.filters));
@@ -169,7 +162,7 @@ fn graymaps(file: &[u8]) -> Result<(String, [Vec<u8>; 3]), u32> {
         let of = FinishedPlane { depths: [depth; 3], transform: 2, plane: number as u32 };
         graymap_file(width, height, of, &finished[number - 1], usize::MAX)
     };
-    Ok((search_line("RDgDb", &found), [file(1)?, file(2)?, file(3)?]))
+    Ok((report_line("RDgDb", &found), [file(1)?, file(2)?, file(3)?]))
 }
 
 #[test]
@@ -244,6 +237,21 @@ fn c_example() {
 #[test]
 fn rust_example() {
     example("rust");
+}
+
+/// The outputs that README.md and examples/README.md show, of the report and of the examples.
+#[test]
+fn shown_outputs() {
+    let shown = |document: &str, output: &str| {
+        let text = fs::read_to_string(root().join(document)).unwrap();
+        let block: String = output.lines().map(|line| format!("    {line}\n")).collect();
+        assert!(text.contains(&block), "{document} does not show\n{block}");
+    };
+    shown("README.md", &report(&fs::read(root().join("samples/weave.ppm")).unwrap()));
+    let file = b"P6\n2 1\n255\n\x0a\x0a\x3c\x0a\x0a\x3c";
+    shown("examples/README.md", &expected(file));
+    shown("examples/README.md", &graymaps(file).unwrap().0);
+    shown("examples/README.md", &previewed(file));
 }
 
 /// The header compiles alone in C and in C++ of several standards, and its macros give the most that is needed where no

@@ -92,6 +92,14 @@ size_t read_planes(const char *name, const uint8_t *file, size_t length, rulanti
     return samples;
 }
 
+void print_estimated(rulantip_estimated found)
+{
+    /* A call that is not refused counts at least one sample. */
+    uint32_t each = found.estimate / found.samples, rest = found.estimate % found.samples;
+
+    printf(" %u %u %u %u\n", (unsigned)found.estimate, (unsigned)found.samples, (unsigned)each, (unsigned)rest);
+}
+
 void compare(const char *name, const uint8_t *file, size_t length, const int32_t *c1, const int32_t *c2, const int32_t *c3,
              size_t samples)
 {

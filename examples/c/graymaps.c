@@ -23,7 +23,8 @@ static void find_filters(const rulantip_pixmap *picture, int32_t **planes, size_
 
     if (found.refusal != 0)
         stop_refused("search", found.refusal);
-    printf("RDgDb %u,%u %u %u\n", choices[0], choices[1], (unsigned)found.estimate, (unsigned)found.samples);
+    printf("RDgDb %u,%u", choices[0], choices[1]);
+    print_estimated(found);
     free(counters);
 }
 

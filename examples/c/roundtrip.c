@@ -146,7 +146,7 @@ int main(int argc, char **argv)
     counters = most_counters(depth);
     counter = memory(counters, sizeof *counter);
 
-    printf("transform filters estimate samples\n");
+    printf("transform filters estimate samples each rest\n");
     for (transform = 0; transform < 4; transform++) {
         uint8_t *found = choices[transform];
         rulantip_estimated answer = rulantip_search(
@@ -157,7 +157,7 @@ int main(int argc, char **argv)
         printf("%s ", names[transform]);
         for (i = 0; i < places[transform]; i++)
             printf(i == 0 ? "%u" : ",%u", (unsigned)found[i]);
-        printf(" %u %u\n", (unsigned)answer.estimate, (unsigned)answer.samples);
+        print_estimated(answer);
         if (transform == 0 || answer.estimate < lowest) {
             best = transform;
             lowest = answer.estimate;

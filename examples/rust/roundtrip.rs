@@ -91,7 +91,7 @@ fn main() {
     let most = (0..4).filter_map(|transform| counters(depths, transform)).max();
     let mut counters = vec![0u32; most.expect("a P6 file's depth is not refused")];
 
-    println!("transform filters estimate samples");
+    println!("transform filters estimate samples each rest");
     let mut best: Option<(u32, Settings, Vec<u8>)> = None;
     for transform in 0..4 {
         let settings = Settings { width, height, depths, transform };
@@ -100,7 +100,10 @@ fn main() {
         let answer = search(settings, 2, &mut choices, planes.each_ref().map(Vec::as_slice), scratch)
             .unwrap_or_else(|refusal| stop_refused(name, refusal));
         let filters: Vec<String> = choices.iter().map(u8::to_string).collect();
-        println!("{} {} {} {}", NAMES[transform as usize], filters.join(","), answer.estimate, answer.samples);
+        // A call that is not refused counts at least one sample.
+        let (each, rest) = (answer.estimate / answer.samples, answer.estimate % answer.samples);
+        print!("{} {} ", NAMES[transform as usize], filters.join(","));
+        println!("{} {} {each} {rest}", answer.estimate, answer.samples);
         if best.as_ref().is_none_or(|(lowest, _, _)| answer.estimate < *lowest) {
             best = Some((answer.estimate, settings, choices));
         }

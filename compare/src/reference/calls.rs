@@ -34,6 +34,18 @@ pub struct Estimated {
     pub samples: u32,
 }
 
+impl Estimated {
+    /// "The estimate divided by N, rounded down"; N is at least 1.
+    pub fn each(self) -> u32 {
+        self.estimate / self.samples
+    }
+
+    /// "The exact remainder."
+    pub fn rest(self) -> u32 {
+        self.estimate % self.samples
+    }
+}
+
 /// What a search finds.
 #[derive(Clone, Debug, PartialEq, Eq)]
 pub struct Found {

@@ -174,11 +174,11 @@ fn counters_alone() {
 
 #[test]
 fn example_report() {
-    let text = "transform filters estimate samples\n\
-                RCT 0,0,0,0 256 2\n\
-                YCoCg-R 0,0,0,0 384 2\n\
-                RDgDb 0,0 256 2\n\
-                LDgEb 0,0,0 256 2\n";
+    let text = "transform filters estimate samples each rest\n\
+                RCT 0,0,0,0 256 2 128 0\n\
+                YCoCg-R 0,0,0,0 384 2 192 0\n\
+                RDgDb 0,0 256 2 128 0\n\
+                LDgEb 0,0,0 256 2 128 0\n";
     assert_eq!(report(b"P6\n2 1\n255\n\x0a\x0a\x3c\x0a\x0a\x3c"), text);
 }
 

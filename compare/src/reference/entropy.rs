@@ -1,5 +1,6 @@
 //! The entropy estimate of a plane: MED residuals, counted and weighed by a table of logarithms.
 
+use super::Natural;
 use std::collections::BTreeMap;
 use std::sync::OnceLock;
 
@@ -32,32 +33,9 @@ pub fn counted_indices(samples: usize) -> impl Iterator<Item = usize> {
     (0..counted).map(move |i| (i as u64 * samples as u64 / counted as u64) as usize)
 }
 
-/// A whole number in base 2^32, the least digit first.
-fn product(a: &[u32], b: &[u32]) -> Vec<u32> {
-    let mut out = vec![0u32; a.len() + b.len()];
-    for (i, &x) in a.iter().enumerate() {
-        let mut carry = 0u64;
-        for (j, &y) in b.iter().enumerate() {
-            let digit = u64::from(out[i + j]) + u64::from(x) * u64::from(y) + carry;
-            out[i + j] = digit as u32;
-            carry = digit >> 32;
-        }
-        out[i + b.len()] = carry as u32;
-    }
-    while out.len() > 1 && out[out.len() - 1] == 0 {
-        out.pop();
-    }
-    out
-}
-
 /// The greatest whole number p with 2^p not above n^64, from n^64 itself.
 fn exact_logarithm(n: u32) -> u32 {
-    let mut power = vec![n];
-    for _ in 0..6 {
-        power = product(&power, &power);
-    }
-    let top = power[power.len() - 1];
-    32 * (power.len() as u32 - 1) + top.ilog2()
+    Natural::new(n).power(64).logarithm()
 }
 
 /// L(n) for n from 1 to 4,096.
@@ -66,15 +44,20 @@ pub fn logarithm(n: usize) -> u32 {
     TABLE.get_or_init(|| (1..=4096).map(exact_logarithm).collect())[n - 1]
 }
 
-/// The estimate of a plane in sixty-fourths of a bit, and how many samples were counted.
-pub fn plane_estimate(plane: &[i64], width: usize) -> (u32, u32) {
-    let mut occurrences: BTreeMap<i64, usize> = BTreeMap::new();
-    let mut counted = 0;
+/// How often each residual occurs among the counted samples, of those that occur; together N times.
+pub fn counts(plane: &[i64], width: usize) -> Vec<u32> {
+    let mut occurrences: BTreeMap<i64, u32> = BTreeMap::new();
     for index in counted_indices(plane.len()) {
         *occurrences.entry(residual(plane, width, index)).or_default() += 1;
-        counted += 1;
     }
-    let weighed = |count: usize| count as u32 * logarithm(count);
-    let less: u32 = occurrences.values().map(|&count| weighed(count)).sum();
-    (weighed(counted) - less, counted as u32)
+    occurrences.into_values().collect()
+}
+
+/// The estimate of a plane in sixty-fourths of a bit, and how many samples were counted.
+pub fn plane_estimate(plane: &[i64], width: usize) -> (u32, u32) {
+    let counts = counts(plane, width);
+    let counted = counts.iter().sum();
+    let weighed = |count: u32| count * logarithm(count as usize);
+    let less: u32 = counts.iter().map(|&count| weighed(count)).sum();
+    (weighed(counted) - less, counted)
 }

@@ -11,6 +11,7 @@ mod library;
 mod bands;
 mod depths;
 mod edges;
+mod entropy;
 mod estimates;
 mod faults;
 mod files;

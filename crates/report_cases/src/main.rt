@@ -22,7 +22,8 @@ fn main() {
     case(b"depth_9.ppm");
     // a sample above maxval
     case(b"sample_128_of_127.ppm");
-    // pictures
+    // pictures; "Estimate 209 with N 4 gives 52 and 1"
+    case(b"estimate_209.ppm");
     case(b"white_space.ppm");
     case(b"depth_2.ppm");
     case(b"2048_pixels.ppm");

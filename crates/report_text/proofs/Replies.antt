@@ -2,9 +2,9 @@
 use mathlib.Core.Path.{_≡_, refl, sym, ap, _∙_}
 use mathlib.Core.Bool.{Bool, true, false, cond}
 use mathlib.Core.List.{List, [], _∷_, _++_}
-use Prim.Native.Nat.{ℕ}
+use Prim.Native.Nat.{ℕ, zero, suc, _≤_}
 use native.Mathlib.Omega.{arith}
-use lib.Dec.{eqb}
+use lib.Dec.{eqb, eqb·suc-zero}
 use lib.ListN.{length, replicate}
 use borrow.Author.Tests.{eq-eqb, ne-eqb}
 use Rattle.stage.specs.declared.Settings.{Settings}
@@ -15,12 +15,14 @@ use Rattle.stage.specs.Steps.{steps, places}
 use Rattle.stage.specs.Transform.{lengths, isPicture}
 use Rattle.stage.specs.Pixmap.{Header}
 use Rattle.stage.specs.Search.{Estimated, Lent, scratchFits, estimated, winners, searchTests, searchCall}
+use Rattle.entropy.proofs.Answers.{calls-near}
 use Rattle.search.specs.declared.Estimated as code
 use Rattle.search.specs.declared.Estimated.the-variants.{Done, Refused}
 use Rattle.report_text.specs.declared.searches.Found.{Found}
 use Rattle.search.specs.Calls.{replyOf, outcomeOf}
 use Rattle.report_text.specs.Text.{line, title, rct, ycocgR, rdgdb, ldgeb, refusalLine}
 use Rattle.report_text.specs.Report.{lent, searchOf, lineBy, both, lines, printed}
+use Rattle.report_text.specs.Promises.{reportRoom, LinesRoom}
 use Rattle.report_text.specs.Found.{found, foundEstimate, FoundBy, firstOf}
 
 -- ---- a refusal's number is not 0
@@ -53,6 +55,13 @@ module _ (h : Header) (p : Planes) (t : ℕ) where
       in
       rw e f
 
+  -- a search that succeeded counted a sample
+  found-some : {φ : List ℕ} {r : Found} → FoundBy (searchOf h p t) φ r → r .refusal ≡ 0 → 1 ≤ r .samples
+  unfolding searchOf
+  found-some {φ} {r} f z =
+      let s = settingsOf (h .width) (h .height) (each (h .depth)) t in
+      calls-near s (foundEstimate r) .search p 2 (lent (replicate (places (steps t)) 0)) (f .reply-is ∙ ap (λ n. replyBy n (foundEstimate r)) z) .some
+
 -- ---- one line, two texts, and the report
 line-reply : (n : ℕ) (name φ : List ℕ) (e : Estimated) (b : Bool) → eqb n 0 ≡ b → lineBy name φ (cond b (done e) (refused n)) ≡ cond b (done (line name φ e)) (refused n)
 line-reply n name φ e true q = refl
@@ -69,6 +78,10 @@ both-replies m n a b false u p q = simp p
 
 both-found : {x y : Reply (List ℕ)} (m n : ℕ) (a b : List ℕ) → x ≡ replyBy m a → y ≡ replyBy n b → both x y ≡ replyBy (firstOf m n) (a ++ b)
 both-found {x} {y} m n a b p q = ap (λ z. both z y) p ∙ ap (both (replyBy m a)) q ∙ both-replies m n a b (eqb m 0) (eqb n 0) refl refl
+
+first-zero : (m n : ℕ) → firstOf m n ≡ 0 → (m ≡ 0) × (n ≡ 0)
+first-zero zero n e = (refl, e)
+first-zero (suc m) n e = absurd (omega (arith, rw eqb·suc-zero at e))
 
 module _ (h : Header) (p : Planes) {φ0 φ1 φ2 φ3 : List ℕ} {r0 r1 r2 r3 : Found}
     (f0 : FoundBy (searchOf h p 0) φ0 r0) (f1 : FoundBy (searchOf h p 1) φ1 r1) (f2 : FoundBy (searchOf h p 2) φ2 r2) (f3 : FoundBy (searchOf h p 3) φ3 r3)
@@ -101,3 +114,17 @@ module _ (h : Header) (p : Planes) {φ0 φ1 φ2 φ3 : List ℕ} {r0 r1 r2 r3 : F
 
   pub lines-done : n ≡ 0 → title ++ four ≡ printed (lines h p)
   lines-done z = sym (ap printed lines-found ∙ ap (λ b. printed (cond b (done four) (refused n))) (eq-eqb n 0 z))
+
+  pub lines-room : (text : List ℕ) → reportRoom ≤ length text → n ≡ 0 → LinesRoom text r0 r1 r2 r3
+  lines-room text room z =
+      let m = firstOf (r0 .refusal) (r1 .refusal) in
+      let a = first-zero (firstOf m (r2 .refusal)) (r3 .refusal) (sym first ∙ z) in
+      let b = first-zero m (r2 .refusal) (a .0) in
+      let c = first-zero (r0 .refusal) (r1 .refusal) (b .0) in
+      record {
+        room = room;
+        some0 = found-some h p 0 f0 (c .0);
+        some1 = found-some h p 1 f1 (c .1);
+        some2 = found-some h p 2 f2 (b .1);
+        some3 = found-some h p 3 f3 (a .1);
+      }

@@ -11,7 +11,7 @@ use Rattle.stage.specs.Pixmap.{Header, headerOf, rasterOf, rasterPlanes}
 use Rattle.text.proofs.Written.{written-parts}
 use Rattle.report_text.specs.Text.{refusalLine}
 use Rattle.report_text.specs.declared.Output.{Output}
-use Rattle.report_text.specs.Promises.{ReportAt, OutputIs, Printed}
+use Rattle.report_text.specs.Promises.{reportRoom, ReportAt, OutputIs, Printed}
 use Rattle.report_text.specs.Report.{lines, printed, linesBy, reportOf}
 
 module _ (file : List ℕ) where
@@ -37,10 +37,10 @@ pub report-as : {a p q b : List ℕ} {n : ℕ} → p ≡ q → ReportAt a p b n 
 report-as {a} {p} {q} {b} {n} e w = rw e at w
 
 -- what was written at the front of zeros
-pub output-is : (report : List ℕ) (r : Output) → ReportAt (replicate 256 0) report (r .text) (r .length) → OutputIs report r
+pub output-is : (report : List ℕ) (r : Output) → ReportAt (replicate reportRoom 0) report (r .text) (r .length) → OutputIs report r
 output-is report r w =
     record {
-      text-is = written-parts (w .written) (omega (arith, w .fits, length-replicate {A = ℕ} 256 0)) ∙ ap (λ l. report ++ l) (drop-replicate (r .length) 256 0);
+      text-is = written-parts (w .written) (omega (arith, w .fits, length-replicate {A = ℕ} reportRoom 0)) ∙ ap (λ l. report ++ l) (drop-replicate (r .length) reportRoom 0);
       length-is = omega (arith, w .written .end-is);
       fits = w .fits;
     }

@@ -8,43 +8,57 @@ use Rattle.stage.specs.Answers.{done}
 use Rattle.stage.specs.Planes.{Planes}
 use Rattle.stage.specs.Transform.{lengths, allEqual}
 use Rattle.stage.specs.Pixmap.{Header, headerOf}
-use Rattle.stage.specs.Search.{Estimated}
 use Rattle.text.specs.Written.{Written}
 use Rattle.report_text.specs.declared.Output.{Output}
-use Rattle.report_text.specs.Text.{line}
+use Rattle.report_text.specs.declared.searches.Found.{Found}
 use Rattle.report_text.specs.Report.{reportOf}
 
 -- what a line takes at most: each filter three digits, each other number ten
 abbrev pub lineRoom : List ℕ → List ℕ → ℕ
-lineRoom name φ = length name + 4 * length φ + 23
+lineRoom name φ = length name + 4 * length φ + 45
 
--- a line at a place of a buffer
-pub record LineAt (before : List ℕ) (at : ℕ) (name φ : List ℕ) (e : Estimated) (after : List ℕ) (end : ℕ) : Type 0 where
-  pub written : Written before at (line name φ e) after end
-  pub fits : end ≤ at + lineRoom name φ
+-- a place of a text with so much room, for numbers of a search that counted a sample
+pub record Room (text : List ℕ) (at room samples : ℕ) : Type 0 where
+  pub fits : at + room ≤ length text
+  pub some : 1 ≤ samples
 
--- a report at the front of a buffer; none is longer than 256 bytes
-pub record ReportAt (before report after : List ℕ) (end : ℕ) : Type 0 where
-  pub written : Written before 0 report after end
-  pub fits : end ≤ 256
+-- a piece at such a place
+pub record WrittenIn (before : List ℕ) (at room : ℕ) (piece after : List ℕ) (end : ℕ) : Type 0 where
+  pub written : Written before at piece after end
+  pub fits : end ≤ at + room
+
+-- what a report takes at most, and a report at the front of a text
+abbrev pub reportRoom : ℕ
+reportRoom = 320
+
+abbrev pub ReportAt : (before report after : List ℕ) (end : ℕ) → Type 0
+ReportAt before report after end = WrittenIn before 0 reportRoom report after end
+
+-- what the lines of four searches are written with
+pub record LinesRoom (text : List ℕ) (s0 s1 s2 s3 : Found) : Type 0 where
+  pub room : reportRoom ≤ length text
+  pub some0 : 1 ≤ s0 .samples
+  pub some1 : 1 ≤ s1 .samples
+  pub some2 : 1 ≤ s2 .samples
+  pub some3 : 1 ≤ s3 .samples
 
 -- what the report on a pixmap is made from: a file with that header, short enough to be read
 pub record ShortPixmap (file : List ℕ) (h : Header) (text : List ℕ) : Type 0 where
   pub header : headerOf file ≡ done h
   pub short : length file ≤ 8192
-  pub room : 256 ≤ length text
+  pub room : reportRoom ≤ length text
 
 -- and with planes for its samples
 pub record LentPlanes (file : List ℕ) (h : Header) (p : Planes) (text : List ℕ) : Type 0 where
   pub header : headerOf file ≡ done h
   pub sizes : allEqual (h .width * h .height) (lengths p) ≡ true
-  pub room : 256 ≤ length text
+  pub room : reportRoom ≤ length text
 
 -- the text is the report and then zeros
 pub record OutputIs (report : List ℕ) (r : Output) : Type 0 where
-  pub text-is : r .text ≡ report ++ replicate (256 - r .length) 0
+  pub text-is : r .text ≡ report ++ replicate (reportRoom - r .length) 0
   pub length-is : r .length ≡ length report
-  pub fits : r .length ≤ 256
+  pub fits : r .length ≤ reportRoom
 
 -- What is handed over to be printed: the report on a file of at most 8,193 bytes. That those are the first bytes of the input, and that
 -- the report's bytes are written, rests with the C functions `read` and `write`: no contract says which bytes they move.

@@ -1,6 +1,6 @@
 -- The report's lines as text: lists of ASCII codes (01, "Pixmaps and the report").
 use mathlib.Core.List.{List, [], _∷_, _++_}
-use Prim.Native.Nat.{ℕ}
+use Prim.Native.Nat.{ℕ, _/_, _%_}
 use Rattle.stage.specs.Decimal.{numeral}
 use Rattle.stage.specs.Search.{Estimated}
 
@@ -9,15 +9,23 @@ unfoldable pub separated : ℕ → List ℕ → List ℕ
 separated s [] = []
 separated s (f ∷ l) = s ∷ numeral f ++ separated 44 l
 
--- "transform name, filters by place, estimate in sixty-fourths, and N", blanks [32] between, and a line feed [10]
-unfoldable pub line : List ℕ → List ℕ → Estimated → List ℕ
-line name φ e = name ++ separated 32 φ ++ (32 ∷ numeral (e .estimate)) ++ (32 ∷ numeral (e .samples)) ++ 10 ∷ []
+-- "estimate in sixty-fourths, and N", and the "two last fields, `each` and `rest`: the estimate divided by N, rounded down, and the exact
+-- remainder" (02, request 8); each number behind a blank [32]
+unfoldable pub numbers : Estimated → List ℕ
+numbers e =
+    (32 ∷ numeral (e .estimate)) ++ (32 ∷ numeral (e .samples))
+    ++ (32 ∷ numeral (e .estimate / e .samples)) ++ (32 ∷ numeral (e .estimate % e .samples))
 
--- `transform filters estimate samples`, and a line feed
+-- "transform name, filters by place", the numbers, and a line feed [10]
+unfoldable pub line : List ℕ → List ℕ → Estimated → List ℕ
+line name φ e = name ++ separated 32 φ ++ numbers e ++ 10 ∷ []
+
+-- `transform filters estimate samples each rest`, and a line feed
 abbrev pub title : List ℕ
 title =
     116 ∷ 114 ∷ 97 ∷ 110 ∷ 115 ∷ 102 ∷ 111 ∷ 114 ∷ 109 ∷ 32 ∷ 102 ∷ 105 ∷ 108 ∷ 116 ∷ 101 ∷ 114 ∷ 115 ∷ 32
-    ∷ 101 ∷ 115 ∷ 116 ∷ 105 ∷ 109 ∷ 97 ∷ 116 ∷ 101 ∷ 32 ∷ 115 ∷ 97 ∷ 109 ∷ 112 ∷ 108 ∷ 101 ∷ 115 ∷ 10 ∷ []
+    ∷ 101 ∷ 115 ∷ 116 ∷ 105 ∷ 109 ∷ 97 ∷ 116 ∷ 101 ∷ 32 ∷ 115 ∷ 97 ∷ 109 ∷ 112 ∷ 108 ∷ 101 ∷ 115 ∷ 32
+    ∷ 101 ∷ 97 ∷ 99 ∷ 104 ∷ 32 ∷ 114 ∷ 101 ∷ 115 ∷ 116 ∷ 10 ∷ []
 
 -- the transforms' names
 abbrev pub rct : List ℕ

@@ -6,14 +6,14 @@ mod searches;
 ghost use Prim.Native.Nat.{_≤_};
 ghost use lib.ListN.{length};
 ghost use Rattle.report_text.specs.Report.{reportOf};
-ghost use Rattle.report_text.specs.Promises.{ReportAt, OutputIs, Printed};
+ghost use Rattle.report_text.specs.Promises.{reportRoom, ReportAt, OutputIs, Printed};
 use libc::STDOUT_FILENO;
 use lines::put_refusal;
 use pixmap::Header;
 use pixmaps::put_pixmap;
 
 fn put_report(text: &mut [u8], file: &[u8]) -> usize
-    requires { ⌜ 256 ≤ length (now text) ⌝ }
+    requires { ⌜ reportRoom ≤ length (now text) ⌝ }
     ensures { λ r. ⌜ ReportAt (now (text .entry)) (reportOf (now (file .entry))) (now (text .exit)) r ⌝ }
 {
     if file.len() > 8192 {
@@ -31,7 +31,7 @@ fn put_report(text: &mut [u8], file: &[u8]) -> usize
 
 // What the report program prints: the first bytes of the text.
 pub struct Output {
-    pub text: [u8; 256],
+    pub text: [u8; 320],
     pub length: usize,
 }
 
@@ -39,7 +39,7 @@ pub struct Output {
 pub fn report(file: &[u8]) -> Output
     ensures { λ r. ⌜ OutputIs (reportOf (now (file .entry))) r ⌝ }
 {
-    let mut text = [0u8; 256];
+    let mut text = [0u8; 320];
     let length = put_report(&mut text, file);
     Output {
         text: text,

@@ -2,8 +2,8 @@
 ghost use Prim.Native.Nat.{_+_, _≤_};
 ghost use lib.ListN.{length};
 ghost use Rattle.text.specs.Written.{Written};
-ghost use Rattle.report_text.specs.Text.{separated, refusalLine};
-ghost use Rattle.report_text.specs.Promises.{lineRoom, LineAt, ReportAt};
+ghost use Rattle.report_text.specs.Text.{separated, numbers, line, refusalLine};
+ghost use Rattle.report_text.specs.Promises.{lineRoom, Room, WrittenIn, reportRoom, ReportAt};
 use text::put_byte;
 use text::put_bytes;
 use text::put_field;
@@ -23,6 +23,19 @@ fn put_filters(text: &mut [u8], at: usize, filters: &[u8]) -> usize
     next
 }
 
+// A search's estimate and number of samples, and what both give for each sample, with the rest.
+fn put_numbers(text: &mut [u8], at: usize, estimate: u32, samples: u32) -> usize
+    requires { ⌜ Room (now text) at 44 samples ⌝ }
+    ensures { λ r. ⌜ WrittenIn (now (text .entry)) at 44 (numbers (record { estimate = estimate; samples = samples })) (now (text .exit)) r ⌝ }
+{
+    let each = estimate / samples;
+    let rest = estimate % samples;
+    let a = put_field(text, at, b' ', estimate);
+    let b = put_field(text, a, b' ', samples);
+    let c = put_field(text, b, b' ', each);
+    put_field(text, c, b' ', rest)
+}
+
 pub fn put_line(
     text: &mut [u8],
     at: usize,
@@ -31,19 +44,18 @@ pub fn put_line(
     estimate: u32,
     samples: u32,
 ) -> usize
-    requires { ⌜ at + lineRoom (now name) (now filters) ≤ length (now text) ⌝ }
-    ensures { λ r. ⌜ LineAt (now (text .entry)) at (now (name .entry)) (now (filters .entry)) (record { estimate = estimate; samples = samples }) (now (text .exit)) r ⌝ }
+    requires { ⌜ Room (now text) at (lineRoom (now name) (now filters)) samples ⌝ }
+    ensures { λ r. ⌜ WrittenIn (now (text .entry)) at (lineRoom (now (name .entry)) (now (filters .entry))) (line (now (name .entry)) (now (filters .entry)) (record { estimate = estimate; samples = samples })) (now (text .exit)) r ⌝ }
 {
     let a = put_bytes(text, at, name);
     let b = put_filters(text, a, filters);
-    let c = put_field(text, b, b' ', estimate);
-    let d = put_field(text, c, b' ', samples);
-    put_byte(text, d, b'\n')
+    let c = put_numbers(text, b, estimate, samples);
+    put_byte(text, c, b'\n')
 }
 
 // The refusal is all of the report.
 pub fn put_refusal(text: &mut [u8], n: u32) -> usize
-    requires { ⌜ 256 ≤ length (now text) ⌝ }
+    requires { ⌜ reportRoom ≤ length (now text) ⌝ }
     ensures { λ r. ⌜ ReportAt (now (text .entry)) (refusalLine n) (now (text .exit)) r ⌝ }
 {
     let a = put_bytes(text, 0, b"refused");

@@ -8,7 +8,7 @@ ghost use Rattle.stage.specs.Pixmap.{rasterOf, rasterPlanes};
 ghost use Rattle.report_text.specs.Text.{line, title, rct, ycocgR, rdgdb, ldgeb};
 ghost use Rattle.report_text.specs.Report.{pictureText};
 ghost use Rattle.report_text.specs.Found.{foundEstimate};
-ghost use Rattle.report_text.specs.Promises.{ReportAt, ShortPixmap, LentPlanes};
+ghost use Rattle.report_text.specs.Promises.{LinesRoom, reportRoom, ReportAt, ShortPixmap, LentPlanes};
 use crate::lines::put_line;
 use crate::lines::put_refusal;
 use crate::searches::Found;
@@ -28,10 +28,10 @@ fn put_lines(
     s2: Found,
     s3: Found,
 ) -> usize
-    requires { ⌜ 256 ≤ length (now text) ⌝ }
+    requires { ⌜ LinesRoom (now text) s0 s1 s2 s3 ⌝ }
     ensures { λ r. ⌜ ReportAt (now (text .entry)) (title ++ (line rct (now (f0 .entry)) (foundEstimate s0) ++ line ycocgR (now (f1 .entry)) (foundEstimate s1) ++ line rdgdb (now (f2 .entry)) (foundEstimate s2) ++ line ldgeb (now (f3 .entry)) (foundEstimate s3))) (now (text .exit)) r ⌝ }
 {
-    let a = put_bytes(text, 0, b"transform filters estimate samples\n");
+    let a = put_bytes(text, 0, b"transform filters estimate samples each rest\n");
     let b = put_line(text, a, b"RCT", f0, s0.estimate, s0.samples);
     let c = put_line(text, b, b"YCoCg-R", f1, s1.estimate, s1.samples);
     let d = put_line(text, c, b"RDgDb", f2, s2.estimate, s2.samples);
@@ -48,7 +48,7 @@ fn put_picture(
     c2: &[i32],
     c3: &[i32],
 ) -> usize
-    requires { ⌜ 256 ≤ length (now text) ⌝ }
+    requires { ⌜ reportRoom ≤ length (now text) ⌝ }
     ensures { λ r. ⌜ ReportAt (now (text .entry)) (pictureText width height depth (triple (now (c1 .entry)) (now (c2 .entry)) (now (c3 .entry)))) (now (text .exit)) r ⌝ }
 {
     let mut f0 = [0u8; 4];

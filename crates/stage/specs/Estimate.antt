@@ -66,9 +66,12 @@ sameNumber x y = leZ x y && leZ y x
 abbrev pub countedResidual : (w : ℕ) (a : List ℤ) (j : ℕ) → ℤ
 countedResidual w a j = residual w a (countedIndex (length a) j)
 
-unfoldable pub planeEstimate : ℕ → List ℤ → ℕ
-planeEstimate w a =
-    estimateOfCounts (histogram sameNumber (countedResidual w a) (counted (length a)) (counted (length a)))
+-- how often each of a plane's counted residuals occurs
+abbrev pub planeCounts : (w : ℕ) (a : List ℤ) → List ℕ
+planeCounts w a = histogram sameNumber (countedResidual w a) (counted (length a)) (counted (length a))
+
+unfoldable pub planeEstimate : (w : ℕ) (a : List ℤ) → ℕ
+planeEstimate w a = estimateOfCounts (planeCounts w a)
 
 -- A picture's estimate is the sum over its finished planes.
 unfoldable pub pictureEstimate : ℕ → Planes → ℕ

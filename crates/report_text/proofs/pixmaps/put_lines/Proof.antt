@@ -5,6 +5,19 @@ use Rattle.text.proofs.Written.{then}
 use Rattle.report_text.proofs.pixmaps.put_lines.Statement.{statement}
 use Rattle.report_text.proofs.pixmaps.put_lines.Tie as tie
 
+-- the pieces before each
+abbrev ycocg : tie.After-put-line3 → tie.After-put-line2
+ycocg r = r .before .before .before .before .before .before
+
+abbrev rct : tie.After-put-line2 → tie.After-put-line
+rct y = y .before .before .before .before .before .before
+
+abbrev title : tie.After-put-line → tie.After-put-bytes
+title l = l .before .before .before .before .before .before
+
+abbrev start : tie.After-put-bytes → tie.Start
+start t = t .before .before .before .before
+
 slice-aggregate-put-bytes : tie.Need-slice-aggregate-put-bytes
 slice-aggregate-put-bytes c = search needs
 
@@ -33,15 +46,21 @@ slice-aggregate-put-line-4 : tie.Need-slice-aggregate-put-line-4
 slice-aggregate-put-line-4 c = search needs
 
 put-line-requires-4 : tie.Need-put-line-requires-4
-put-line-requires-4 c κs = search needs
+put-line-requires-4 c κs =
+    let r = c .before .before .before .before .before in
+    let y = ycocg r in
+    let l = rct y in
+    let t = title l in
+    let s = start t in
+    record { fits = omega (arith, s .pre, t .put-bytes, l .put-line, y .put-line2, r .put-line3); some = s .pre .some3 }
 
 returns : tie.Need-returns
 returns c =
     let d = c .before .before in
     let r = d .before .before .before .before .before .before in
-    let y = r .before .before .before .before .before .before in
-    let l = y .before .before .before .before .before .before in
-    let t = l .before .before .before .before .before .before in
+    let y = ycocg r in
+    let l = rct y in
+    let t = title l in
     record {
       written = then (t .put-bytes .ensures) (then (then (then (l .put-line .ensures .written) (y .put-line2 .ensures .written)) (r .put-line3 .ensures .written)) (d .put-line4 .ensures .written));
       fits = omega arith;

@@ -5,7 +5,7 @@ use denote.Ref.{now}
 use Rattle.stage.specs.Planes.{Planes, triple}
 use Rattle.stage.specs.Pixmap.{Header}
 use Rattle.report_text.specs.Found.{firstOf}
-use Rattle.report_text.proofs.Replies.{lines-refused, lines-done}
+use Rattle.report_text.proofs.Replies.{lines-refused, lines-done, lines-room}
 use Rattle.report_text.proofs.Reports.{report-as}
 use Rattle.report_text.proofs.pixmaps.put_picture.Statement.{statement}
 use Rattle.report_text.proofs.pixmaps.put_picture.Tie as tie
@@ -78,7 +78,10 @@ returns c =
     report-as (lines-refused (header q) (planes q) (w1 q .search-with .ensures) (w2 q .search-with2 .ensures) (w3 q .search-with3 .ensures) (w4 q .search-with4 .ensures) (first q) (p .before .before .if1 .taken)) (p .put-refusal .ensures)
 
 put-lines-requires : tie.Need-put-lines-requires
-put-lines-requires c κs = start (c .before .before .before .before .before .before) .pre
+put-lines-requires c κs =
+    let e = c .before .before .before .before .before in
+    let q = e .before in
+    lines-room (header q) (planes q) (w1 q .search-with .ensures) (w2 q .search-with2 .ensures) (w3 q .search-with3 .ensures) (w4 q .search-with4 .ensures) (first q) _ (start q .pre) (e .if1 .left)
 
 returns-2 : tie.Need-returns-2
 returns-2 c =

@@ -1,0 +1,2 @@
+pub mod Entropy
+pub mod EntropyCases
