@@ -13,9 +13,13 @@ use Rattle.report_text.specs.declared.Output.{Output}
 use Rattle.report_text.specs.declared.searches.Found.{Found}
 use Rattle.report_text.specs.Report.{reportOf}
 
--- what a line takes at most: each filter three digits, each other number ten
+-- room enough for the four numbers of a line, each a blank and at most ten digits,
+abbrev pub numbersRoom : ℕ
+numbersRoom = 4 * 11
+
+-- and for a line, whose filters take a separator and at most three digits each
 abbrev pub lineRoom : List ℕ → List ℕ → ℕ
-lineRoom name φ = length name + 4 * length φ + 45
+lineRoom name φ = length name + 4 * length φ + numbersRoom + 1
 
 -- a place of a text with so much room, for numbers of a search that counted a sample
 pub record Room (text : List ℕ) (at room samples : ℕ) : Type 0 where
@@ -27,7 +31,7 @@ pub record WrittenIn (before : List ℕ) (at room : ℕ) (piece after : List ℕ
   pub written : Written before at piece after end
   pub fits : end ≤ at + room
 
--- what a report takes at most, and a report at the front of a text
+-- room enough for any report, and a report at the front of a text
 abbrev pub reportRoom : ℕ
 reportRoom = 320
 

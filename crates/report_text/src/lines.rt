@@ -3,7 +3,7 @@ ghost use Prim.Native.Nat.{_+_, _≤_};
 ghost use lib.ListN.{length};
 ghost use Rattle.text.specs.Written.{Written};
 ghost use Rattle.report_text.specs.Text.{separated, numbers, line, refusalLine};
-ghost use Rattle.report_text.specs.Promises.{lineRoom, Room, WrittenIn, reportRoom, ReportAt};
+ghost use Rattle.report_text.specs.Promises.{numbersRoom, lineRoom, Room, WrittenIn, reportRoom, ReportAt};
 use text::put_byte;
 use text::put_bytes;
 use text::put_field;
@@ -25,8 +25,8 @@ fn put_filters(text: &mut [u8], at: usize, filters: &[u8]) -> usize
 
 // A search's estimate and number of samples, and what both give for each sample, with the rest.
 fn put_numbers(text: &mut [u8], at: usize, estimate: u32, samples: u32) -> usize
-    requires { ⌜ Room (now text) at 44 samples ⌝ }
-    ensures { λ r. ⌜ WrittenIn (now (text .entry)) at 44 (numbers (record { estimate = estimate; samples = samples })) (now (text .exit)) r ⌝ }
+    requires { ⌜ Room (now text) at numbersRoom samples ⌝ }
+    ensures { λ r. ⌜ WrittenIn (now (text .entry)) at numbersRoom (numbers (record { estimate = estimate; samples = samples })) (now (text .exit)) r ⌝ }
 {
     let each = estimate / samples;
     let rest = estimate % samples;
