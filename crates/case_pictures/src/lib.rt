@@ -1,4 +1,6 @@
 // Pictures by number: samples of a linear congruential generator, plane 1 row by row, then plane 2, then plane 3.
+#![tactic(auto)]
+
 ghost use Rattle.std.specs.Prelude.{◌≡◌, ◌↔◌, true, ◌+◌, ◌*◌, ◌%◌, ◌≤◌};
 ghost use Rattle.case_pictures.specs.Generated.{next, sample, generated, Levels, LevelsOf, Filled};
 

@@ -1,4 +1,6 @@
 // Pieces of the lines that the programs of cases print.
+#![tactic(auto)]
+
 ghost use Rattle.std.specs.Prelude.{◌≡◌, nat_abs};
 
 use libc::STDOUT_FILENO;

@@ -1,4 +1,6 @@
 // The estimate of a plane (01, "Estimate and search").
+#![tactic(auto)]
+
 mod histogram;
 mod residual;
 

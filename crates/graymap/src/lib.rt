@@ -1,4 +1,6 @@
 // Finished planes as graymaps, P5 files: written to a lent buffer, and read back.
+#![tactic(auto)]
+
 mod answers;
 mod reading;
 mod refusals;

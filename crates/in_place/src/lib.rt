@@ -1,5 +1,7 @@
 // The calls `estimate` and `search` in place (02, request 5). Both are lent the picture's planes to work on, and counters alone: what
 // the steps change they undo, so the planes are as lent when a call returns.
+#![tactic(auto)]
+
 ghost use Rattle.stage.specs.Planes.{triple};
 ghost use Rattle.search.specs.Calls.{scratch_of, lent};
 ghost use Rattle.in_place.specs.Calls.{EstimateGives, SearchGives};

@@ -1,5 +1,7 @@
 // Tests that numbers lie in a range, −below .. above or 0 .. 2^bits − 1.
 
+#![tactic(auto)]
+
 ghost use Rattle.std.specs.Prelude.{◌≡◌, ◌-◌, ◌^◌, ◌≤◌};
 ghost use Rattle.integers.specs.Parts.{within};
 ghost use Rattle.integers.specs.Lists.{all_within};

@@ -1,5 +1,7 @@
 // The in-place lifting passes over a plane. A plane that is filtered has samples within ±2^19, a plane that is changed within ±2^22, and
 // every sum of samples is an i32 or a u32.
+#![tactic(auto)]
+
 ghost use Rattle.std.specs.Prelude.{◌*◌};
 ghost use Rattle.integers.specs.Lists.{Changed};
 ghost use Rattle.stage.specs.Filter.{filtered};

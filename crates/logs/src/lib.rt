@@ -1,4 +1,6 @@
 // The table of logarithms (01, "Estimate and search"), and one logarithm by the table.
+#![tactic(auto)]
+
 mod entries;
 
 ghost use Rattle.std.specs.Prelude.{◌≤◌};

@@ -1,5 +1,7 @@
 // A picture on file: its width, height, depth and lent raster, in one record. A function over the record only takes it apart
 // and calls one over the slice.
+#![tactic(auto)]
+
 ghost use Rattle.std.specs.Prelude.{◌≡◌, ◌<◌, pos, length, get_or};
 ghost use Rattle.stage.specs.Pixmap.{header_of, raster_of};
 ghost use Rattle.picture.specs.OnFile.{numbers_of, samples_at, sample_of, PictureOf};

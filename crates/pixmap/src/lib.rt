@@ -1,5 +1,7 @@
 // A reader of portable pixmaps: the header of any bytes, the raster as a part of the lent file, and its three planes. The header of a
 // graymap is read by the same functions.
+#![tactic(auto)]
+
 mod answers;
 mod header_text;
 

@@ -1,4 +1,6 @@
 // Preview pixels: three samples as three floats of HVSCT or YCoCg, without rounding, and back from either space.
+#![tactic(auto)]
+
 mod back;
 mod forward;
 mod matrices;

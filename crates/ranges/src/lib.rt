@@ -1,4 +1,6 @@
 // A plane's range of finished planes; the widest of the three and the counters that it asks for; the tests of planes against ranges.
+#![tactic(auto)]
+
 mod arithmetic;
 mod finished;
 

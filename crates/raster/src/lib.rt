@@ -1,4 +1,6 @@
 // The samples of a raster, of one byte each or of two, the more significant first: read to a plane, and written from one.
+#![tactic(auto)]
+
 mod reading;
 mod writing;
 

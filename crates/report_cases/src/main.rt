@@ -1,4 +1,6 @@
 // The report on each file of data/, behind its name.
+#![tactic(auto)]
+
 use libc::STDOUT_FILENO;
 
 fn case(name: &[u8]) {

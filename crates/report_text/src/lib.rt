@@ -1,4 +1,6 @@
 // The text that the report program prints (01, "Pixmaps and the report").
+#![tactic(auto)]
+
 mod lines;
 mod pixmaps;
 mod searches;

@@ -1,5 +1,7 @@
 // The library as C, C++ and Rust callers see it; include/rulantip.h declares it. Each function makes the inner call's settings and
 // takes its answer apart. depth1, depth2 and depth3 are those of planes 1, 2 and 3.
+#![tactic(auto)]
+
 ghost use Rattle.std.specs.Prelude.{◌≡◌};
 ghost use Rattle.stage.specs.Answers.{number, reply_of};
 ghost use Rattle.stage.specs.Settings.{depths_of, settings_of};

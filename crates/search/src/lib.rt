@@ -1,4 +1,6 @@
 // The calls `estimate` and `search` (01, "Estimate and search"). Both work on a copy of the picture, at the front of the trial planes.
+#![tactic(auto)]
+
 pub mod refusals;
 pub mod scratch;
 

@@ -1,5 +1,7 @@
 // What the code of all crates shares with the definitions of the colour stage (specs/): the planes, a run's settings, a kind of file, a
 // range, an answer, and the tests of sizes and lengths.
+#![tactic(auto)]
+
 ghost use Rattle.std.specs.Prelude.{◌≡◌, cond};
 ghost use Rattle.stage.specs.Answers.{between, sized};
 ghost use Rattle.stage.specs.Planes.{triple, same_plane};

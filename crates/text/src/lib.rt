@@ -1,4 +1,6 @@
 // Text in lent buffers: bytes, words and decimal numbers written at a place, and decimal numbers read at a place.
+#![tactic(auto)]
+
 mod reading;
 mod writing;
 

@@ -1,5 +1,7 @@
 // The calls `forward` and `inverse` of both forms, in bands or not: every transform of 01 there and back, in place. Without bands a picture is
 // one band.
+#![tactic(auto)]
+
 ghost use Rattle.stage.specs.Planes.{triple};
 ghost use Rattle.stage.specs.declared.Form.TheVariants.{Plain};
 ghost use Rattle.transform.specs.Calls.{PictureGives, ForwardGives, InverseGives};

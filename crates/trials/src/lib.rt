@@ -1,5 +1,7 @@
 // The filter search and the estimate of choices (01, "Estimate and search"), on three planes that hold a picture, with counters that
 // are zero before and after.
+#![tactic(auto)]
+
 mod place;
 mod round;
 mod trial;
