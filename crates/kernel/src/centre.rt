@@ -3,7 +3,7 @@ ghost use Rattle.std.specs.Prelude.{◌≡◌, ◌/◌, ◌<◌, ◌≤◌};
 ghost use Rattle.kernel.specs.Centre.{Reciprocal, CentreEntry, ReciprocalDivision};
 
 // A filter's centre weight, 2^23 / weight, and the reciprocal of the full window's weight.
-#[derive(Drop)]
+#[derive(Clone, Copy)]
 pub struct Centre {
     pub weight: u32,
     pub offset: u32,

@@ -27,7 +27,7 @@ pub const QUARTER_ADD: u32 = 7;
 pub const QUARTER_SUBTRACT: u32 = 8;
 
 // A pass by its number, and how its result is kept: as it is, or wrapped to the depth's bits.
-#[derive(Drop)]
+#[derive(Clone, Copy)]
 pub struct KeptPass {
     pub number: u32,
     pub form: Form,

@@ -13,7 +13,7 @@ use stage::{Plane, same_plane};
 
 // A pass changes a plane by the filtered values of another, which it reads: the kernel's pass forward and back, and the step that
 // it belongs to. Its number in its transform is its place.
-#[derive(Drop)]
+#[derive(Clone, Copy)]
 pub struct Pass {
     pub changed: Plane,
     pub read: Plane,
@@ -23,7 +23,7 @@ pub struct Pass {
 }
 
 // A row of a transform's table: the fields of a pass in order.
-#[derive(Drop)]
+#[derive(Clone, Copy)]
 struct Row(Plane, Plane, u32, u32, usize);
 
 // C1 ← C1 − C2d; C3 ← C3 − C2d; C2 ← C2 + (C1d + C3d)/4

@@ -5,7 +5,7 @@ ghost use Rattle.pixmap.specs.Parts.{PartOf};
 ghost use Rattle.pixmap.specs.HeaderFields.{FieldAt, FieldsOf};
 
 // Whether a field is of the form; its number, or 100,000 where that is larger; and the place behind it.
-#[derive(Drop)]
+#[derive(Clone, Copy)]
 struct Field {
     formed: bool,
     value: u32,
@@ -13,7 +13,7 @@ struct Field {
 }
 
 // A header's three fields, and whether all of it is of the form; the place is that of the last white space byte.
-#[derive(Drop)]
+#[derive(Clone, Copy)]
 pub struct Fields {
     pub formed: bool,
     pub width: u32,

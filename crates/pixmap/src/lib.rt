@@ -19,7 +19,7 @@ use raster::{fill, sample_bytes};
 use stage::{Answer, Kind};
 
 // A file's first refusal, or 0; its header's numbers; and the place of the header's last byte.
-#[derive(Drop)]
+#[derive(Clone, Copy)]
 pub struct Parsed {
     pub refusal: u32,
     pub width: u32,

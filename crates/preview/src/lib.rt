@@ -10,14 +10,14 @@ pub use back::go_back;
 pub use forward::{hvsct, ycocg};
 
 // Three floats: R, G and B, or the values of a space in the order of its matrix.
-#[derive(Drop)]
+#[derive(Clone, Copy)]
 pub struct Pixel {
     pub v1: f64,
     pub v2: f64,
     pub v3: f64,
 }
 
-#[derive(Drop)]
+#[derive(Clone, Copy)]
 pub struct Rgb {
     pub r: i32,
     pub g: i32,
@@ -25,7 +25,7 @@ pub struct Rgb {
 }
 
 // A pixel of one of the spaces, or a refusal's number.
-#[derive(Drop)]
+#[derive(Clone, Copy)]
 pub enum Preview {
     Hvsct(Pixel),
     Ycocg(Pixel),
@@ -33,7 +33,7 @@ pub enum Preview {
 }
 
 // What a preview goes back to, or a refusal's number.
-#[derive(Drop)]
+#[derive(Clone, Copy)]
 pub enum Samples {
     Found(Rgb),
     Refused(u32),

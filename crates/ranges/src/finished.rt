@@ -9,7 +9,7 @@ use crate::arithmetic::{add, half, negate, quarter, subtract};
 use stage::{Depths, Range};
 
 // of planes 1, 2 and 3
-#[derive(Drop)]
+#[derive(Clone, Copy)]
 pub(crate) struct Ranges {
     pub(crate) c1: Range,
     pub(crate) c2: Range,

@@ -9,7 +9,7 @@ use search::Estimated;
 use stage::{Settings, each};
 
 // A refusal's number, or 0 and what the search found.
-#[derive(Drop)]
+#[derive(Clone, Copy)]
 pub struct Found {
     pub refusal: u32,
     pub estimate: u32,

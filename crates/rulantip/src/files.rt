@@ -11,7 +11,7 @@ use graymap::{Restored, Stored};
 use pixmap::Header;
 
 #[repr(C)]
-#[derive(Drop)]
+#[derive(Clone, Copy)]
 pub struct RulantipPixmap {
     pub refusal: u32,
     pub width: u32,
@@ -56,7 +56,7 @@ pub extern "C" fn rulantip_p6_planes(
 }
 
 #[repr(C)]
-#[derive(Drop)]
+#[derive(Clone, Copy)]
 pub struct RulantipWritten {
     pub refusal: u32,
     pub length: u32,
@@ -96,7 +96,7 @@ pub extern "C" fn rulantip_p5_write(
 }
 
 #[repr(C)]
-#[derive(Drop)]
+#[derive(Clone, Copy)]
 pub struct RulantipGraymap {
     pub refusal: u32,
     pub width: u32,

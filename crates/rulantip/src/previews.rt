@@ -8,7 +8,7 @@ ghost use Rattle.rulantip.specs.Previews.{pixel_of, preview_read, preview_return
 use preview::{Pixel, Preview, Rgb, Samples};
 
 #[repr(C)]
-#[derive(Drop)]
+#[derive(Clone, Copy)]
 pub struct RulantipPreview {
     pub refusal: u32,
     pub space: u32,
@@ -60,7 +60,7 @@ pub extern "C" fn rulantip_ycocg(depth: u32, r: i32, g: i32, b: i32) -> Rulantip
 }
 
 #[repr(C)]
-#[derive(Drop)]
+#[derive(Clone, Copy)]
 pub struct RulantipRgb {
     pub refusal: u32,
     pub r: i32,

@@ -10,7 +10,7 @@ use crate::{depths, settings};
 use search::Estimated;
 
 #[repr(C)]
-#[derive(Drop)]
+#[derive(Clone, Copy)]
 pub struct RulantipEstimated {
     pub refusal: u32,
     pub estimate: u32,

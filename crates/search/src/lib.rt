@@ -19,7 +19,7 @@ use transform::settings::choices_fit;
 use trials::{estimate_picture, search_picture};
 
 // The estimate and N, or a refusal's number.
-#[derive(Drop)]
+#[derive(Clone, Copy)]
 pub enum Estimated {
     Done { estimate: u32, samples: u32 },
     Refused(u32),

@@ -8,7 +8,7 @@ use stage::Depths;
 
 // A picture's samples: in each plane a slope with the generator's noise on it, modulo M + 1 of the plane's depth. The slope begins at
 // `start`.
-#[derive(Drop)]
+#[derive(Clone, Copy)]
 pub(crate) struct Slope {
     pub(crate) depths: Depths,
     pub(crate) noise: u32,

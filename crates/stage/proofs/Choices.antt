@@ -4,7 +4,7 @@ use mathlib.Core.List.{List, [], ◌∷◌}
 use Prim.Native.Nat.{ℕ, zero, suc, ◌+◌, ◌*◌, ◌-◌, ◌/◌, ◌≤◌, ◌<◌}
 use native.Mathlib.Nat.{mul_comm, mul-le-mul_left, div-mul-le_self, div-lt_iff_lt-mul, le-div_iff_mul-le}
 use native.Mathlib.Omega.{arith}
-use lib.Dec.{T, leb, eqb, leb→le, le→leb, eqb→eq, eqb_refl, lit≤}
+use lib.Dec.{T, leb, leb→le, le→leb, eqb→eq, eqb_refl, lit≤}
 use lib.ListN.{length, get_or, set, replicate, length-set, length-replicate}
 use Rattle.integers.proofs.Booleans.{and_iff}
 use Rattle.stage.specs.Settings.{Settings, Bands, One, Of, band_count, bands_suit, pixels}

@@ -2,7 +2,7 @@
 use Rattle.std.specs.Prelude.{◌≡◌, Bool, true, false, not, ◌&&◌, List, [], ◌∷◌, ℕ, ◌≤◌, ◌<◌, T, length, replicate}
 use Rattle.stage.specs.Settings.{Settings, Form, Plain, Bands, depths_suit, bands_suit, Allowed}
 use Rattle.stage.specs.Planes.{Planes, get}
-use Rattle.stage.specs.Steps.{Setup, Step, Lifting, add, subtract, negate, all_null, reversed, step, run, undo, steps, places}
+use Rattle.stage.specs.Steps.{Setup, Step, Lifting, add, subtract, negate, all_null, reversed, step, run, undo, steps}
 use Rattle.stage.specs.Transform.{choice_count, setup, transformed, untransformed, Picture, forward, inverse}
 use Rattle.stage.specs.Demand3.{GoesTo, accepted}
 

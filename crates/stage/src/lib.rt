@@ -8,7 +8,7 @@ ghost use Rattle.stage.specs.Planes.{triple, same_plane};
 ghost use Rattle.stage.specs.Settings.{each, depths_allowed, depths_suit, bands_suit};
 ghost use Rattle.stage.specs.Transform.{all_equal};
 
-#[derive(Drop)]
+#[derive(Clone, Copy)]
 pub enum Plane {
     C1,
     C2,
@@ -38,7 +38,7 @@ pub fn same_plane(a: Plane, b: Plane) -> bool
 }
 
 // The depths of planes 1, 2 and 3: how many bits a sample has.
-#[derive(Drop)]
+#[derive(Clone, Copy)]
 pub struct Depths {
     pub c1: u32,
     pub c2: u32,
@@ -57,7 +57,7 @@ pub fn each(depth: u32) -> Depths
 }
 
 // A picture's width, height and depths, and the number of its transform. Each call tests them.
-#[derive(Drop)]
+#[derive(Clone, Copy)]
 pub struct Settings {
     pub width: u32,
     pub height: u32,
@@ -66,7 +66,7 @@ pub struct Settings {
 }
 
 // The form of a transform: what a step makes of a sample is kept as it is, or wrapped to the depth's bits.
-#[derive(Drop)]
+#[derive(Clone, Copy)]
 pub enum Form {
     Plain,
     Wrapped,
@@ -74,14 +74,14 @@ pub enum Form {
 
 // How a picture's rows take their filters: all from one set of choices, or each band of so many rows from its own. The last band may be
 // shorter.
-#[derive(Drop)]
+#[derive(Clone, Copy)]
 pub enum Bands {
     One,
     Of(u32),
 }
 
 // What a transform's steps run with but for the choices: the settings, how a result is kept, and where filters change.
-#[derive(Drop)]
+#[derive(Clone, Copy)]
 pub struct Plan {
     pub settings: Settings,
     pub form: Form,
@@ -89,21 +89,21 @@ pub struct Plan {
 }
 
 // What a portable file of samples may be: a pixmap (P6) of any depth, or a graymap (P5) with this maxval.
-#[derive(Drop)]
+#[derive(Clone, Copy)]
 pub enum Kind {
     Pixmap,
     Graymap(u32),
 }
 
 // −below to above
-#[derive(Drop)]
+#[derive(Clone, Copy)]
 pub struct Range {
     pub below: u32,
     pub above: u32,
 }
 
 // Success, or the number of a refusal.
-#[derive(Drop)]
+#[derive(Clone, Copy)]
 pub enum Answer {
     Done,
     Refused(u32),

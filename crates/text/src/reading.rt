@@ -4,7 +4,7 @@ ghost use Rattle.stage.specs.Decimal.{is_digit};
 ghost use Rattle.text.specs.Numbers.{NumberAt, Extendable};
 
 // A number, or the limit where it is larger; how many digits it has, 0 where no digit stands there; and the place behind them.
-#[derive(Drop)]
+#[derive(Clone, Copy)]
 pub struct Number {
     pub value: u64,
     pub digits: usize,

@@ -8,7 +8,7 @@ use stage::{Depths, Plan};
 use transform::{forward, inverse};
 
 // A picture's depths, and the generator's number before each of its planes.
-#[derive(Drop)]
+#[derive(Clone, Copy)]
 pub(crate) struct Generated {
     pub depths: Depths,
     pub x1: u32,

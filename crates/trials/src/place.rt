@@ -10,14 +10,14 @@ use lifting::passes::step_of;
 use stage::Settings;
 
 // The filter that leads at a place, and its estimate.
-#[derive(Drop)]
+#[derive(Clone, Copy)]
 pub struct Best {
     pub filter: u8,
     pub estimate: u32,
 }
 
 // A place and its step, the estimate of the planes that no step from there on changes, and the present filter.
-#[derive(Drop)]
+#[derive(Clone, Copy)]
 pub struct Place {
     pub place: usize,
     pub step: usize,

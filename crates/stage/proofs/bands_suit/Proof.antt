@@ -1,9 +1,0 @@
-use borrow.Author.Rules.{rules}
-use Rattle.stage.proofs.bands_suit.Statement.{statement}
-use Rattle.stage.proofs.bands_suit.Tie as tie
-
-returns-2 : tie.Need-returns-2
-returns-2 c = rw c.before.bands.given.1
-
-pub bands_suit_spec : {M : Type 1} → statement M
-bands_suit_spec = tie.close (tie.spec (λ c. search rules) (λ c. search rules) (λ c. search rules) returns-2)
