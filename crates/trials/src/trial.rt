@@ -12,7 +12,7 @@ use ranges::widest;
 use stage::{Bands, Form, Plan, Plane, Settings};
 
 // Some of the three planes.
-#[derive(Drop)]
+#[derive(Clone, Copy)]
 pub struct PlaneSet {
     pub c1: bool,
     pub c2: bool,
