@@ -1,6 +1,9 @@
 // The report program: the report on standard input.
 #![tactic(auto)]
 
-fn main() {
-    report_text::print_report(libc::STDIN_FILENO);
+use std::io;
+
+fn main(rt: HostRuntime) -> io::Result<()> {
+    report_text::print_report(&rt, &mut rt.reader())?;
+    Ok(())
 }

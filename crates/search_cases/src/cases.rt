@@ -2,6 +2,7 @@
 ghost use Rattle.std.specs.Prelude.{◌≡◌, ◌≤◌, length};
 ghost use Rattle.search_cases.specs.Slopes.{Fillable, Lendable, CaseNumbers};
 
+use std::io;
 use crate::picture::{Slope, fill};
 use crate::text::print_answer;
 use case_pictures::{choice, levels};
@@ -55,41 +56,39 @@ fn estimated(s: Settings, choices: &[u8], c1: &[i32], c2: &[i32], c3: &[i32]) ->
 }
 
 // What the choices hold before the search does not matter either, so the estimate's are lent to it.
-fn show(s: Settings, rounds: u32, choices: &mut [u8], c1: &[i32], c2: &[i32], c3: &[i32]) {
+fn show<R: Print>(rt: &R, s: Settings, rounds: u32, choices: &mut [u8], c1: &[i32], c2: &[i32], c3: &[i32]) -> io::Result<()> {
     let e = estimated(s, choices, c1, c2, c3);
-    print(b"estimate");
-    print_answer(choices, e);
+    print(rt, b"estimate")?;
+    print_answer(rt, choices, e)?;
     let f = searched(s, rounds, choices, c1, c2, c3);
-    print(b"search");
-    print_answer(choices, f);
+    print(rt, b"search")?;
+    print_answer(rt, choices, f)
 }
 
-fn print_case(s: Settings, rounds: u32, slope: Slope, seed: u32) {
-    print_settings(s);
-    print_field(b" noise", slope.noise);
-    print_field(b" step", slope.step);
-    print_field(b" seed", seed);
-    print_field(b" rounds", rounds);
-    print(b"\n");
+fn print_case<R: Print>(rt: &R, s: Settings, rounds: u32, slope: Slope, seed: u32) -> io::Result<()> {
+    print_settings(rt, s)?;
+    print_field(rt, b" noise", slope.noise)?;
+    print_field(rt, b" step", slope.step)?;
+    print_field(rt, b" seed", seed)?;
+    print_field(rt, b" rounds", rounds)?;
+    print(rt, b"\n")
 }
 
-fn fill_and_show(
-    s: Settings,
+fn fill_and_show<R: Print>(rt: &R, s: Settings,
     rounds: u32,
     slope: Slope,
     seed: u32,
     choices: &mut [u8],
     c1: &mut [i32],
     c2: &mut [i32],
-    c3: &mut [i32],
-)
+    c3: &mut [i32],) -> io::Result<()>
     requires { Fillable slope }
 {
     let x2 = fill(c1, slope, levels(slope.depths.c1), seed);
     let x3 = fill(c2, slope, levels(slope.depths.c2), x2);
     fill(c3, slope, levels(slope.depths.c3), x3);
-    print_case(s, rounds, slope, seed);
-    show(s, rounds, choices, c1, c2, c3);
+    print_case(rt, s, rounds, slope, seed)?;
+    show(rt, s, rounds, choices, c1, c2, c3)
 }
 
 // 5,000 zeros, of which a picture takes the first.
@@ -99,14 +98,13 @@ fn plane() -> [i32; 5000]
     [0; 5000]
 }
 
-fn lend(s: Settings, rounds: u32, slope: Slope, seed: u32, choices: &mut [u8], n: usize)
+fn lend<R: Print>(rt: &R, s: Settings, rounds: u32, slope: Slope, seed: u32, choices: &mut [u8], n: usize) -> io::Result<()>
     requires { Lendable slope n }
 {
     let mut c1 = plane();
     let mut c2 = plane();
     let mut c3 = plane();
-    fill_and_show(
-        s,
+    fill_and_show(rt, s,
         rounds,
         slope,
         seed,
@@ -114,11 +112,11 @@ fn lend(s: Settings, rounds: u32, slope: Slope, seed: u32, choices: &mut [u8], n
         &mut c1[..n],
         &mut c2[..n],
         &mut c3[..n],
-    );
+    )
 }
 
 // A picture of n samples and of three depths, with as many choices as the transform has places.
-fn choose(s: Settings, rounds: u32, depths: Depths, noise: u32, step: u32, seed: u32, n: usize)
+fn choose<R: Print>(rt: &R, s: Settings, rounds: u32, depths: Depths, noise: u32, step: u32, seed: u32, n: usize) -> io::Result<()>
     requires { CaseNumbers depths noise step seed n }
 {
     let slope = Slope {
@@ -133,14 +131,14 @@ fn choose(s: Settings, rounds: u32, depths: Depths, noise: u32, step: u32, seed:
     let f4 = choice(seed, 3);
     let transform = s.transform;
     match transform {
-        2 => lend(s, rounds, slope, seed, &mut [f1, f2], n),
-        3 => lend(s, rounds, slope, seed, &mut [f1, f2, f3], n),
-        _ => lend(s, rounds, slope, seed, &mut [f1, f2, f3, f4], n),
+        2 => lend(rt, s, rounds, slope, seed, &mut [f1, f2], n),
+        3 => lend(rt, s, rounds, slope, seed, &mut [f1, f2, f3], n),
+        _ => lend(rt, s, rounds, slope, seed, &mut [f1, f2, f3, f4], n),
     }
 }
 
 // Noise, one colour, a slope with a little noise, a steep slope, and a steep slope with noise.
-fn case(k: u32, width: u32, height: u32, n: usize)
+fn case<R: Print>(rt: &R, k: u32, width: u32, height: u32, n: usize) -> io::Result<()>
     requires { (k ≤ 65536) × (n ≤ 5000) }
 {
     let depths = Depths {
@@ -156,32 +154,32 @@ fn case(k: u32, width: u32, height: u32, n: usize)
     };
     let rounds = 1 + k / 4 % 4;
     match k % 5 {
-        0 => choose(s, rounds, depths, 65536, 0, k, n),
-        1 => choose(s, rounds, depths, 1, 0, k, n),
-        2 => choose(s, rounds, depths, 2, 1, k, n),
-        3 => choose(s, rounds, depths, 1, 3, k, n),
-        _ => choose(s, rounds, depths, 9, 5, k, n),
+        0 => choose(rt, s, rounds, depths, 65536, 0, k, n),
+        1 => choose(rt, s, rounds, depths, 1, 0, k, n),
+        2 => choose(rt, s, rounds, depths, 2, 1, k, n),
+        3 => choose(rt, s, rounds, depths, 1, 3, k, n),
+        _ => choose(rt, s, rounds, depths, 9, 5, k, n),
     }
 }
 
-fn sized(k: u32)
+fn sized<R: Print>(rt: &R, k: u32) -> io::Result<()>
     requires { k ≤ 65536 }
 {
     match k % 9 {
-        0 => case(k, 1, 1, 1),
-        1 => case(k, 2, 1, 2),
-        2 => case(k, 1, 9, 9),
-        3 => case(k, 3, 3, 9),
-        4 => case(k, 16, 11, 176),
-        5 => case(k, 40, 30, 1200),
-        6 => case(k, 64, 64, 4096),
-        7 => case(k, 17, 241, 4097),
-        _ => case(k, 100, 50, 5000),
+        0 => case(rt, k, 1, 1, 1),
+        1 => case(rt, k, 2, 1, 2),
+        2 => case(rt, k, 1, 9, 9),
+        3 => case(rt, k, 3, 3, 9),
+        4 => case(rt, k, 16, 11, 176),
+        5 => case(rt, k, 40, 30, 1200),
+        6 => case(rt, k, 64, 64, 4096),
+        7 => case(rt, k, 17, 241, 4097),
+        _ => case(rt, k, 100, 50, 5000),
     }
 }
 
 // A picture of nine samples and depth 8 with other settings.
-fn refusal(width: u32, height: u32, depths: Depths, transform: u32, rounds: u32) {
+fn refusal<R: Print>(rt: &R, width: u32, height: u32, depths: Depths, transform: u32, rounds: u32) -> io::Result<()> {
     let s = Settings {
         width: width,
         height: height,
@@ -193,15 +191,14 @@ fn refusal(width: u32, height: u32, depths: Depths, transform: u32, rounds: u32)
         c2: 8,
         c3: 8,
     };
-    choose(s, rounds, pictured, 65536, 0, 1, 9);
+    choose(rt, s, rounds, pictured, 65536, 0, 1, 9)
 }
 
 // A size, a depth and a transform past the limits, planes of another length, too few counters, rounds past the limits, and samples
 // past a plane's highest.
-pub(crate) fn refusals() {
-    refusal(0, 3, each(8), 0, 1);
-    refusal(
-        3,
+pub(crate) fn refusals<R: Print>(rt: &R) -> io::Result<()> {
+    refusal(rt, 0, 3, each(8), 0, 1)?;
+    refusal(rt, 3,
         3,
         Depths {
             c1: 8,
@@ -210,14 +207,13 @@ pub(crate) fn refusals() {
         },
         0,
         1,
-    );
-    refusal(3, 3, each(8), 4, 1);
-    refusal(3, 4, each(8), 0, 1);
-    refusal(3, 3, each(9), 1, 1);
-    refusal(3, 3, each(8), 0, 0);
-    refusal(3, 3, each(8), 0, 5);
-    refusal(
-        3,
+    )?;
+    refusal(rt, 3, 3, each(8), 4, 1)?;
+    refusal(rt, 3, 4, each(8), 0, 1)?;
+    refusal(rt, 3, 3, each(9), 1, 1)?;
+    refusal(rt, 3, 3, each(8), 0, 0)?;
+    refusal(rt, 3, 3, each(8), 0, 5)?;
+    refusal(rt, 3,
         3,
         Depths {
             c1: 8,
@@ -226,14 +222,16 @@ pub(crate) fn refusals() {
         },
         0,
         1,
-    );
+    )?;
+    Ok(())
 }
 
 // Every kind of picture with every size.
-pub(crate) fn cases() {
+pub(crate) fn cases<R: Print>(rt: &R) -> io::Result<()> {
     let mut k = 0;
     while k < 45 {
-        sized(k);
+        sized(rt, k)?;
         k += 1;
     }
+    Ok(())
 }

@@ -6,9 +6,10 @@ mod cases;
 mod picture;
 mod text;
 
+use std::io;
 use cases::{cases, refusals};
 
-fn main() {
-    cases();
-    refusals();
+fn main(rt: HostRuntime) -> io::Result<()> {
+    cases(&rt)?;
+    refusals(&rt)
 }

@@ -1,16 +1,17 @@
 // Pieces of the lines that are printed.
+use std::io;
 use case_text::{print, print_field, print_filters};
 use search::Estimated;
 
 // The filters, and what a call answers of them.
-pub(crate) fn print_answer(filters: &[u8], answer: Estimated) {
-    print_filters(filters);
+pub(crate) fn print_answer<R: Print>(rt: &R, filters: &[u8], answer: Estimated) -> io::Result<()> {
+    print_filters(rt, filters)?;
     match answer {
         Estimated::Done { estimate, samples } => {
-            print_field(b" estimate", estimate);
-            print_field(b" samples", samples);
+            print_field(rt, b" estimate", estimate)?;
+            print_field(rt, b" samples", samples)?;
         }
-        Estimated::Refused(n) => print_field(b" refused", n),
+        Estimated::Refused(n) => print_field(rt, b" refused", n)?,
     }
-    print(b"\n");
+    print(rt, b"\n")
 }

@@ -9,10 +9,11 @@ mod pictures;
 mod text;
 mod wrapped;
 
+use std::io;
 use limits::limits;
 use pictures::pictures;
 
-fn main() {
-    limits();
-    pictures();
+fn main(rt: HostRuntime) -> io::Result<()> {
+    limits(&rt)?;
+    pictures(&rt)
 }

@@ -3,6 +3,7 @@
 ghost use Rattle.std.specs.Prelude.{◌≤◌};
 ghost use Rattle.stage.specs.Settings.{UpTo16};
 
+use std::io;
 use crate::bands::{band_count, band_rows, places, sets};
 use crate::generated::{Generated, there_and_back, undo};
 use crate::text::{print_answer, print_bands, print_choices, print_planes};
@@ -32,37 +33,36 @@ fn replace_in(c1: &mut [i32], c2: &mut [i32], c3: &mut [i32], plane: u32, i: usi
 }
 
 // The inverse of damaged planes. What it accepts, as another picture goes there, is printed and run again.
-fn undo_damaged(plan: Plan, choices: &[u8], c1: &mut [i32], c2: &mut [i32], c3: &mut [i32]) {
+fn undo_damaged<R: Print>(rt: &R, plan: Plan, choices: &[u8], c1: &mut [i32], c2: &mut [i32], c3: &mut [i32]) -> io::Result<()> {
     let a = inverse(plan, choices, c1, c2, c3);
-    print_answer(b" inverse", a);
+    print_answer(rt, b" inverse", a)?;
     let Answer::Done = a else {
-        print(b"\n");
-        return;
+        print(rt, b"\n")?;
+        return Ok(());
     };
-    print_planes(c1, c2, c3);
+    print_planes(rt, c1, c2, c3)?;
     let b = forward(plan, choices, c1, c2, c3);
-    print_answer(b" forward", b);
-    print(b"\n");
+    print_answer(rt, b" forward", b)?;
+    print(rt, b"\n")
 }
 
 // Forward again; then the middle number of a finished plane is replaced by z, and put back when the inverse was tried.
-fn damage(
-    plan: Plan,
+fn damage<R: Print>(rt: &R, plan: Plan,
     choices: &[u8],
     c1: &mut [i32],
     c2: &mut [i32],
     c3: &mut [i32],
     plane: u32,
-    z: i32,
-) {
+    z: i32,) -> io::Result<()> {
     forward(plan, choices, c1, c2, c3);
     let middle = c1.len() / 2;
-    print_field(b"plane", plane);
-    print(b" damaged by ");
-    print_sample(z);
+    print_field(rt, b"plane", plane)?;
+    print(rt, b" damaged by ")?;
+    print_sample(rt, z)?;
     let old = replace_in(c1, c2, c3, plane, middle, z);
-    undo_damaged(plan, choices, c1, c2, c3);
+    undo_damaged(rt, plan, choices, c1, c2, c3)?;
     replace_in(c1, c2, c3, plane, middle, old);
+    Ok(())
 }
 
 // What a finished plane is damaged by.
@@ -75,53 +75,48 @@ fn damaged_number(kind: u32) -> i32 {
     }
 }
 
-fn show_plain(
-    k: u32,
+fn show_plain<R: Print>(rt: &R, k: u32,
     plan: Plan,
     p: Generated,
     choices: &[u8],
     c1: &mut [i32],
     c2: &mut [i32],
-    c3: &mut [i32],
-)
+    c3: &mut [i32],) -> io::Result<()>
     requires { UpTo16 p.depths }
 {
-    there_and_back(plan, p, choices, c1, c2, c3);
-    damage(
-        plan,
+    there_and_back(rt, plan, p, choices, c1, c2, c3)?;
+    damage(rt, plan,
         choices,
         c1,
         c2,
         c3,
         1 + k % 3,
         damaged_number(k / 4 % 4),
-    );
-    undo(plan, p, choices, c1, c2, c3);
+    )?;
+    undo(rt, plan, p, choices, c1, c2, c3)
 }
 
-fn show(
-    k: u32,
+fn show<R: Print>(rt: &R, k: u32,
     plan: Plan,
     p: Generated,
     choices: &[u8],
     c1: &mut [i32],
     c2: &mut [i32],
-    c3: &mut [i32],
-)
+    c3: &mut [i32],) -> io::Result<()>
     requires { UpTo16 p.depths }
 {
     let bands = plan.bands;
-    print_field(b"picture", k);
-    print(b" ");
-    print_choices(plan.settings, choices);
-    print_bands(bands);
-    print(b"\n");
-    show_plain(k, plan, p, choices, c1, c2, c3);
-    wrap(plan, p, choices, c1, c2, c3);
+    print_field(rt, b"picture", k)?;
+    print(rt, b" ")?;
+    print_choices(rt, plan.settings, choices)?;
+    print_bands(rt, bands)?;
+    print(rt, b"\n")?;
+    show_plain(rt, k, plan, p, choices, c1, c2, c3)?;
+    wrap(rt, plan, p, choices, c1, c2, c3)
 }
 
 // Fills the planes with the picture of a number.
-fn fill_and_show(k: u32, plan: Plan, choices: &[u8], c1: &mut [i32], c2: &mut [i32], c3: &mut [i32])
+fn fill_and_show<R: Print>(rt: &R, k: u32, plan: Plan, choices: &[u8], c1: &mut [i32], c2: &mut [i32], c3: &mut [i32]) -> io::Result<()>
     requires { UpTo16 plan.settings.depths }
 {
     let s = plan.settings;
@@ -135,11 +130,11 @@ fn fill_and_show(k: u32, plan: Plan, choices: &[u8], c1: &mut [i32], c2: &mut [i
         x2: x2,
         x3: x3,
     };
-    show(k, plan, p, choices, c1, c2, c3);
+    show(rt, k, plan, p, choices, c1, c2, c3)
 }
 
 // In the plain form.
-fn lend(k: u32, bands: Bands, s: Settings, choices: &[u8], n: usize)
+fn lend<R: Print>(rt: &R, k: u32, bands: Bands, s: Settings, choices: &[u8], n: usize) -> io::Result<()>
     requires { UpTo16 s.depths × (n ≤ 20) }
 {
     let plan = Plan {
@@ -150,11 +145,11 @@ fn lend(k: u32, bands: Bands, s: Settings, choices: &[u8], n: usize)
     let mut c1 = [0i32; 20];
     let mut c2 = [0i32; 20];
     let mut c3 = [0i32; 20];
-    fill_and_show(k, plan, choices, &mut c1[..n], &mut c2[..n], &mut c3[..n]);
+    fill_and_show(rt, k, plan, choices, &mut c1[..n], &mut c2[..n], &mut c3[..n])
 }
 
 // With the filters of picture k, as many as its transform has places.
-fn choose(k: u32, s: Settings, n: usize)
+fn choose<R: Print>(rt: &R, k: u32, s: Settings, n: usize) -> io::Result<()>
     requires { UpTo16 s.depths × (n ≤ 20) }
 {
     let f1 = choice(k / 4, 0);
@@ -163,23 +158,23 @@ fn choose(k: u32, s: Settings, n: usize)
     let f4 = choice(k / 4, 3);
     let transform = s.transform;
     match transform {
-        2 => lend(k, Bands::One, s, &[f1, f2], n),
-        3 => lend(k, Bands::One, s, &[f1, f2, f3], n),
-        _ => lend(k, Bands::One, s, &[f1, f2, f3, f4], n),
+        2 => lend(rt, k, Bands::One, s, &[f1, f2], n),
+        3 => lend(rt, k, Bands::One, s, &[f1, f2, f3], n),
+        _ => lend(rt, k, Bands::One, s, &[f1, f2, f3, f4], n),
     }
 }
 
 // With such filters for each band: band b has those of picture k + 4 × b.
-fn choose_sets(k: u32, s: Settings, n: usize)
+fn choose_sets<R: Print>(rt: &R, k: u32, s: Settings, n: usize) -> io::Result<()>
     requires { (k ≤ 52) × UpTo16 s.depths × (n ≤ 20) }
 {
     let places = places(s.transform);
     let sets = sets(k, places);
     let count = places as usize * band_count(s.height);
-    lend(k, Bands::Of(band_rows(s.height)), s, &sets[..count], n);
+    lend(rt, k, Bands::Of(band_rows(s.height)), s, &sets[..count], n)
 }
 
-fn picture(k: u32, width: u32, height: u32, n: usize)
+fn picture<R: Print>(rt: &R, k: u32, width: u32, height: u32, n: usize) -> io::Result<()>
     requires { (k ≤ 52) × (n ≤ 20) }
 {
     let s = Settings {
@@ -192,29 +187,30 @@ fn picture(k: u32, width: u32, height: u32, n: usize)
         },
         transform: k % 4,
     };
-    choose(k, s, n);
-    choose_sets(k, s, n);
+    choose(rt, k, s, n)?;
+    choose_sets(rt, k, s, n)
 }
 
-fn sized(k: u32)
+fn sized<R: Print>(rt: &R, k: u32) -> io::Result<()>
     requires { k ≤ 52 }
 {
     match k % 7 {
-        0 => picture(k, 1, 1, 1),
-        1 => picture(k, 1, 6, 6),
-        2 => picture(k, 7, 1, 7),
-        3 => picture(k, 2, 2, 4),
-        4 => picture(k, 3, 3, 9),
-        5 => picture(k, 5, 4, 20),
-        _ => picture(k, 4, 3, 12),
+        0 => picture(rt, k, 1, 1, 1),
+        1 => picture(rt, k, 1, 6, 6),
+        2 => picture(rt, k, 7, 1, 7),
+        3 => picture(rt, k, 2, 2, 4),
+        4 => picture(rt, k, 3, 3, 9),
+        5 => picture(rt, k, 5, 4, 20),
+        _ => picture(rt, k, 4, 3, 12),
     }
 }
 
 // Each transform with each filter at each of its places.
-pub(crate) fn pictures() {
+pub(crate) fn pictures<R: Print>(rt: &R) -> io::Result<()> {
     let mut k = 0;
     while k < 52 {
-        sized(k);
+        sized(rt, k)?;
         k += 1;
     }
+    Ok(())
 }

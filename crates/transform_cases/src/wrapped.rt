@@ -1,6 +1,7 @@
 // The generated pictures in the wrapped forms.
 ghost use Rattle.stage.specs.Settings.{UpTo16};
 
+use std::io;
 use crate::generated::{Generated, print_compared, there_and_back};
 use crate::text::{print_answer, print_planes};
 use case_text::{print, print_field};
@@ -8,26 +9,24 @@ use stage::{Form, Plan, Settings, each};
 use transform::{forward, inverse};
 
 // The picture taken for finished planes, and what is left taken there again.
-fn undo_picture(plan: Plan, choices: &[u8], c1: &mut [i32], c2: &mut [i32], c3: &mut [i32]) {
+fn undo_picture<R: Print>(rt: &R, plan: Plan, choices: &[u8], c1: &mut [i32], c2: &mut [i32], c3: &mut [i32]) -> io::Result<()> {
     let a = inverse(plan, choices, c1, c2, c3);
-    print_answer(b"inverse", a);
-    print_planes(c1, c2, c3);
-    print(b"\n");
+    print_answer(rt, b"inverse", a)?;
+    print_planes(rt, c1, c2, c3)?;
+    print(rt, b"\n")
 }
 
-fn run_again(
-    plan: Plan,
+fn run_again<R: Print>(rt: &R, plan: Plan,
     p: Generated,
     choices: &[u8],
     c1: &mut [i32],
     c2: &mut [i32],
-    c3: &mut [i32],
-)
+    c3: &mut [i32],) -> io::Result<()>
     requires { UpTo16 p.depths }
 {
     let a = forward(plan, choices, c1, c2, c3);
-    print_answer(b"forward", a);
-    print_compared(p, c1, c2, c3);
+    print_answer(rt, b"forward", a)?;
+    print_compared(rt, p, c1, c2, c3)
 }
 
 fn greater(a: u32, b: u32) -> u32 {
@@ -46,14 +45,12 @@ fn deepest(s: Settings) -> Settings {
 }
 
 // The picture in the wrapped form, with the deepest depth for all planes: there and back, then back and there.
-pub(crate) fn wrap(
-    plan: Plan,
+pub(crate) fn wrap<R: Print>(rt: &R, plan: Plan,
     p: Generated,
     choices: &[u8],
     c1: &mut [i32],
     c2: &mut [i32],
-    c3: &mut [i32],
-)
+    c3: &mut [i32],) -> io::Result<()>
     requires { UpTo16 p.depths }
 {
     let bands = plan.bands;
@@ -62,9 +59,9 @@ pub(crate) fn wrap(
         form: Form::Wrapped,
         bands: bands,
     };
-    print_field(b"wrapped to bits", w.settings.depths.c1);
-    print(b"\n");
-    there_and_back(w, p, choices, c1, c2, c3);
-    undo_picture(w, choices, c1, c2, c3);
-    run_again(w, p, choices, c1, c2, c3);
+    print_field(rt, b"wrapped to bits", w.settings.depths.c1)?;
+    print(rt, b"\n")?;
+    there_and_back(rt, w, p, choices, c1, c2, c3)?;
+    undo_picture(rt, w, choices, c1, c2, c3)?;
+    run_again(rt, w, p, choices, c1, c2, c3)
 }
