@@ -13,8 +13,8 @@ use mir.Facts.{to_z-of_z}
 use Rattle.integers.proofs.Parts.{nat_abs_parts, pos_part_add, neg_part_add, pos_part_neg, neg_part_neg, one_part}
 use Rattle.integers.proofs.Order.{lt_z_true, lt_z_false}
 use Rattle.integers.proofs.Ranges.{fits_in, in_fits, in_sub, nonneg_holds, nonneg_by}
-use Rattle.case_text.proofs.magnitude.Statement.{statement}
-use Rattle.case_text.proofs.magnitude.Tie as tie
+use Rattle.case_text.proofs.magnitude.Goals as goal
+use Rattle.case_text.proofs.magnitude.Goals.{Then-z-lt0}
 
 record Negated (z : ℤ) : Type 0 where
   wide : SFits w64 z
@@ -36,43 +36,39 @@ negated z f e =
       small = omega (arith, nat_abs_parts z);
     }
 
-below : (c : tie.Then1) → Negated c.before.args.z
+below : (c : Then-z-lt0) → Negated c.before.args.z
 below c =
     let f : SFits w32 c.before.args.z = search rules in
-    negated c.before.args.z f (simp (to_z-of_z, f) at c.if1.true)
+    negated c.before.args.z f (simp (to_z-of_z, f) at c.if-z-lt0.true)
 
-cast_result : tie.Need-overflow-cast-result
-cast_result c = let f : SFits w32 c.before.args.z = search rules in simp (to_z-of_z, f) (below c).wide
+pub overflow_cast-result : goal.overflow_cast-result
+overflow_cast-result c = let f : SFits w32 c.before.args.z = search rules in simp (to_z-of_z, f) (below c).wide
 
-sub_result : tie.Need-overflow-sub-result
-sub_result c =
+pub overflow_sub-result : goal.overflow_sub-result
+overflow_sub-result c =
     let f : SFits w32 c.before.args.z = search rules in
     let b = below c in
     simp (to_z-of_z, f, b.wide) b.fits
 
-cast_result_2 : tie.Need-overflow-cast-result-2
-cast_result_2 c =
+pub overflow_cast-result-then-z-lt0 : goal.overflow_cast-result-then-z-lt0
+overflow_cast-result-then-z-lt0 c =
     let f : SFits w32 c.before.args.z = search rules in
     let b = below c in
     simp (to_z-of_z, f, b.wide, b.fits) (b.unsigned, record { fits = omega (arith, b.same, b.small) })
 
-cast_result_3 : tie.Need-overflow-cast-result-3
-cast_result_3 c =
+pub overflow_cast-result-else-z-lt0 : goal.overflow_cast-result-else-z-lt0
+overflow_cast-result-else-z-lt0 c =
     let z = c.before.args.z in
     let f : SFits w32 z = search rules in
-    let n = lt_z_false z (pos 0) (simp (to_z-of_z, f) at c.if1.false) in
+    let n = lt_z_false z (pos 0) (simp (to_z-of_z, f) at c.if-z-lt0.false) in
     let b = fits_in w32 f in
     simp (to_z-of_z, f) (nonneg_holds z (nonneg_by z (omega arith)), record { fits = omega (arith, nat_abs_parts z) })
 
-returns : tie.Need-returns
-returns c =
+pub returns-then-z-lt0 : goal.returns-then-z-lt0
+returns-then-z-lt0 c =
     let f : SFits w32 c.before.args.z = search rules in
     let b = below c in
     simp (to_z-of_z, f, b.wide, b.fits) b.same
 
-returns-2 : tie.Need-returns-2
-returns-2 c = let f : SFits w32 c.before.args.z = search rules in simp (to_z-of_z, f)
-
-pub magnitude_spec : {M : Type 1} → statement M
-magnitude_spec =
-    tie.close (tie.spec cast_result sub_result cast_result_2 cast_result_3 returns returns-2)
+pub returns-else-z-lt0 : goal.returns-else-z-lt0
+returns-else-z-lt0 c = let f : SFits w32 c.before.args.z = search rules in simp (to_z-of_z, f)
