@@ -33,7 +33,7 @@ segment_rest b u inside g h l = record {
 
 -- what `apply` answers of a sample and a filtered value
 pub applied_is : (p : KeptPass) {x y z r : ℤ} → In 4194304 4194304 x → ValueIn 524288 z y → r ≡ applied p (to_z w32 (of_z w32 x)) (to_z w32 (of_z w32 y)) → r ≡ applied p x z
-applied_is p h v e = e ∙ ap₂ (applied p) (to_z-of_z (in_fits h (lit≤ tt) (lit< tt))) (to_z-of_z (in_fits v.range (lit≤ tt) (lit< tt)) ∙ v.is)
+applied_is p h v e = e ∙ ap₂ (applied p) (to_z-of_z {w = w32} (in_fits h (lit≤ tt) (lit< tt))) (to_z-of_z {w = w32} (in_fits v.range (lit≤ tt) (lit< tt)) ∙ v.is)
 
 -- a loop over the indices i to j − 1 that has come to k
 pub record Progress (p : KeptPass) (f : ℕ → ℤ) (i j k : ℕ) (before after : List ℤ) : Type 0 where
