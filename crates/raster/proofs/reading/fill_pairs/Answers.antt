@@ -1,0 +1,33 @@
+-- Below i the plane holds samples of two bytes, from i on what it held.
+use mathlib.Core.Path.{refl, ap, ◌∙◌}
+use Prim.Native.Nat.{ℕ}
+use native.Mathlib.Omega.{arith}
+use lib.IntN.{pos, ◌-ℤ◌}
+use mir.Syntax.{w32}
+use mir.Facts.{to_z-of_z}
+use Rattle.integers.proofs.Changes.{changed_none, changed_more}
+use Rattle.raster.proofs.Pairs.{pairs_long}
+use Rattle.raster.proofs.Filling.{place-within, filled}
+use Rattle.raster.proofs.reading.fill_pairs.Goals as goal
+
+pub loop-i-init : goal.loop-i-init
+loop-i-init c = (omega arith, changed_none _ _ refl)
+
+pub overflow_mul-step : goal.overflow_mul-step
+overflow_mul-step c = record { fits = omega (arith, place-within c.loop-i.i c.requires (omega arith), pairs_long c.args.raster.now) }
+
+pub overflow_add-step : goal.overflow_add-step
+overflow_add-step c = record { fits = omega (arith, place-within c.loop-i.i c.requires (omega arith), pairs_long c.args.raster.now) }
+
+pub pair-requires : goal.pair-requires
+pair-requires c = omega (arith, place-within c.loop-i.i c.requires (omega arith), pairs_long c.args.raster.now)
+
+pub loop-i-preserved : goal.loop-i-preserved
+loop-i-preserved c =
+    (omega arith, changed_more _ c.loop-i.invariant.1 (omega arith) (omega arith) (to_z-of_z {w = w32} (record { sfits = c.less.type_inv }) ∙ c.less.ensures ∙ ap (λ (n : ℕ). pos n -ℤ pos c.args.below) c.pair.ensures) refl)
+
+pub shape_of-plane : goal.shape_of-plane
+shape_of-plane c = c.loop-i.invariant.1.long
+
+pub returns : goal.returns
+returns c = filled c.loop-i.invariant.1 (omega (arith, c.loop-i.invariant.1.long))

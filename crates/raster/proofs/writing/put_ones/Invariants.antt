@@ -1,0 +1,12 @@
+use mathlib.Core.List.{map}
+use Prim.Native.Nat.{◌-◌, ◌≤◌}
+use lib.ListN.{length, drop}
+use Rattle.stage.specs.Graymap.{less_lowest}
+use Rattle.text.proofs.Written.{Remains}
+use Rattle.raster.proofs.writing.put_ones.Given as goal
+
+abbrev pub invariant-loop-i : goal.invariant-loop-i
+invariant-loop-i l = (l.i ≤ length l.samples) × Remains l.initial.text l.at (map (less_lowest l.range) l.samples) l.text l.next (map (less_lowest l.range) (drop l.i l.samples))
+
+abbrev pub decreases-loop-i : goal.decreases-loop-i
+decreases-loop-i l = length l.samples - l.i
