@@ -1,4 +1,3 @@
-use borrow.Author.Rules.{rules}
 use mathlib.Core.Path.{◌≡◌, sym, ap, ◌∙◌, subst}
 use mathlib.Core.Bool.{Bool, cond, ◌&&◌}
 use Prim.Native.Nat.{ℕ}
@@ -10,21 +9,17 @@ use Rattle.stage.specs.declared.Plane.TheVariants.{C1, C2, C3}
 use Rattle.stage.specs.Settings.{settings_of, depths_allowed, UpTo16}
 use Rattle.stage.specs.Search.{counters_needed, counters_call}
 use Rattle.stage.proofs.Validity.{depths_iff}
-use Rattle.ranges.proofs.counters.Statement.{statement}
-use Rattle.ranges.proofs.counters.Tie as tie
-
-are_depths_requires : tie.Need-are-depths-requires
-are_depths_requires c κs = search rules
+use Rattle.ranges.proofs.counters.Goals as goal
 
 -- no depth is above 16 where the test holds
 tested : (d : Depths) → T (depths_allowed d) → UpTo16 d
 tested d h = let depths = (depths_iff (settings_of 1 1 d 0)).0 h in record { first = (depths C1).1; second = (depths C2).1; third = (depths C3).1 }
 
-counters_needed_requires : tie.Need-counters-needed-requires
-counters_needed_requires c κs =
+pub counters_needed-requires : goal.counters_needed-requires
+counters_needed-requires c =
     let s = c.before.before.args in
-    let k = (and_iff c.before.are-depths.result _).0 (true_holds c.if1.taken) in
-    (tested s.depths (subst T c.before.are-depths.ensures k.0), omega (arith, leb→le s.transform _ k.1))
+    let k = (and_iff c.before.are_depths.result _).0 (true_holds c.if-are_depths-transform.true) in
+    (tested s.depths (subst T c.before.are_depths.ensures k.0), omega (arith, leb→le s.transform _ k.1))
 
 -- what the definition gives for what the code tests
 told : (d : Depths) (t : ℕ) {fit found : Bool} → fit ≡ depths_allowed d → (fit && leb t 3) ≡ found
@@ -32,13 +27,10 @@ told : (d : Depths) (t : ℕ) {fit found : Bool} → fit ≡ depths_allowed d �
 told d t is test =
     ap (λ (b : Bool). cond b (counters_needed (settings_of 1 1 d t)) 0) (sym test ∙ ap (λ (b : Bool). b && leb t 3) is)
 
-returns : tie.Need-returns
-returns c =
+pub returns-then-are_depths-transform : goal.returns-then-are_depths-transform
+returns-then-are_depths-transform c =
     let s = c.before.before.before.args in
-    c.counters-needed.ensures ∙ told s.depths s.transform c.before.before.are-depths.ensures c.before.if1.taken
+    c.counters_needed.ensures ∙ told s.depths s.transform c.before.before.are_depths.ensures c.before.if-are_depths-transform.true
 
-returns-2 : tie.Need-returns-2
-returns-2 c = let s = c.before.before.args in told s.depths s.transform c.before.are-depths.ensures c.if1.left
-
-pub counters_spec : {M : Type 1} → statement M
-counters_spec = tie.close (tie.spec are_depths_requires counters_needed_requires returns returns-2)
+pub returns : goal.returns
+returns c = let s = c.before.before.args in told s.depths s.transform c.before.are_depths.ensures c.if-are_depths-transform.false
