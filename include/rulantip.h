@@ -2,7 +2,7 @@
    each lifting step, an entropy estimate, a filter search, a reader of P6 pixmaps, finished planes as
    P5 graymaps, and pixels of two lossy spaces for viewers.
 
-   Link with target/staticlib/librulantip.a, which `rt staticlib rulantip` proves and writes.
+   Link with target/staticlib/librulantip.a, which `tools/library` proves and writes.
 
    A PICTURE has width and height 1 to 8,192 and three planes of width * height numbers, row by row,
    each plane with a depth b of its own, 2 to 16 bits. As a picture the planes hold R, G and B, each

@@ -88,19 +88,19 @@ const SOURCE: &str = r#"
     }
 
     fn inner(s: &[u8]) -> u32
-        ensures { λ r. ⌜ r ≡ 0 ⌝ }
+        ensures { result ≡ 0 }
     {
         0
     }
 
-    #[no_mangle]
+    #[unsafe(no_mangle)]
     pub extern "C" fn rulantip_pair<'a>(width: u32, choices: &'a [u8], c1: &mut [i32], counters: &mut [u32]) -> RulantipPair
-        ensures { λ r. ⌜ r ≡ pair { width } ⌝ }
+        ensures { result ≡ pair { width } }
     {
         RulantipPair { refusal: 0, count: 1, share: 0.5 }
     }
 
-    #[no_mangle]
+    #[unsafe(no_mangle)]
     pub extern "C" fn rulantip_none(file: &[u8], weight: f64)
     {
     }
@@ -189,8 +189,8 @@ fn changed_declarations_are_found() {
         ("width: u32, choices: &'a [u8]", "choices: &'a [u8], width: u32"),
         ("&mut [i32]", "&[i32]"),
         ("pub refusal: u32,\n", ""),
-        ("#[no_mangle]\n    pub extern \"C\" fn rulantip_none", "pub fn rulantip_none"),
-        ("    ensures { λ r. ⌜ r ≡ pair", "    requires { ⌜ width < 5 ⌝ } ensures { λ r. ⌜ r ≡ pair"),
+        ("#[unsafe(no_mangle)]\n    pub extern \"C\" fn rulantip_none", "pub fn rulantip_none"),
+        ("    ensures { result ≡ pair", "    requires { width < 5 } ensures { result ≡ pair"),
         ("file: &[u8],", "file: &[u8; 4],"),
         ("share: f64", "share: f32"),
         (", weight: f64", ""),

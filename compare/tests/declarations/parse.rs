@@ -312,12 +312,12 @@ pub fn rust_module(text: &str) -> Result<Face, String> {
     Ok(face)
 }
 
-/// The functions marked `#[no_mangle] pub extern "C"` and the structs marked `#[repr(C)]` of Rattle source.
+/// The functions marked `#[unsafe(no_mangle)] pub extern "C"` and the structs marked `#[repr(C)]` of Rattle source.
 pub fn rattle_source(text: &str) -> Result<Face, String> {
     let mut tokens = Tokens::new(text);
     let mut face = Face::default();
     while !tokens.ended() {
-        if tokens.take("# [ no_mangle ]") {
+        if tokens.take("# [ unsafe ( no_mangle ) ]") {
             tokens.expect("pub extern \" C \" fn")?;
             let (name, parameters, result) = rust_function(&mut tokens)?;
             face.add_function(name.clone(), parameters, result);
