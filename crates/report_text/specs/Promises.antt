@@ -61,7 +61,7 @@ pub record OutputIs (report : List ℕ) (r : Output) : Type 0 where
   pub fits : r.length ≤ report_room
 
 -- What is handed over to be printed: the report on a file of at most 8,193 bytes. That those are the first bytes of the input, and that
--- the report's bytes are written, rests with the C functions `read` and `write`: no contract says which bytes they move.
+-- the report's bytes are written, rests with the library's `read` and `write_all`: no contract says which bytes the system moves.
 pub record Printed (r : Output) : Type 0 where
   pub file : List ℕ
   pub short : length file ≤ 8193

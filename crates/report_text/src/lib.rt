@@ -5,14 +5,14 @@ mod lines;
 mod pixmaps;
 mod searches;
 
-ghost use Rattle.std.specs.Prelude.{◌≤◌, length};
+ghost use Rattle.std.specs.Prelude.{◌≤◌, length, IfOk};
 ghost use Rattle.report_text.specs.Report.{report_of};
 ghost use Rattle.report_text.specs.Promises.{report_room, ReportAt, OutputIs, Printed};
 
-use libc::STDOUT_FILENO;
 use lines::put_refusal;
 use pixmap::Header;
 use pixmaps::put_pixmap;
+use std::io::{self, Read};
 
 fn put_report(text: &mut [u8], file: &[u8]) -> usize
     requires { report_room ≤ length text.old }
@@ -50,16 +50,28 @@ pub fn report(file: &[u8]) -> Output
     }
 }
 
-// Prints the report on what a descriptor reads, of which 8,193 bytes are enough to refuse it. Answers what it hands over to be
-// written.
-pub fn print_report(input: i32) -> Output
-    ensures { Printed result }
+// Reads until the buffer is full or the input ends, and answers how many bytes stand at its front.
+fn read_full<R: Read>(input: &mut R, buffer: &mut [u8]) -> io::Result<usize>
+    ensures { IfOk result (λ n. n ≤ length buffer.new) }
+{
+    let mut count = 0;
+    while count < buffer.len() {
+        let n = input.read(&mut buffer[count..])?;
+        if n == 0 {
+            break;
+        }
+        count += n;
+    }
+    Ok(count)
+}
+
+// Prints the report on what an input gives, of which 8,193 bytes are enough to refuse it. Answers what it hands over to be written.
+pub fn print_report<P: Print, R: Read>(rt: &P, input: &mut R) -> io::Result<Output>
+    ensures { IfOk result Printed }
 {
     let mut buffer = [0u8; 8193];
-    let n = io::read_full(input, &mut buffer);
+    let n = read_full(input, &mut buffer)?;
     let r = report(&buffer[..n]);
-    let text = r.text;
-    let length = r.length;
-    io::write_all(STDOUT_FILENO, &text[..length]);
-    r
+    rt.write_all(&r.text[..r.length])?;
+    Ok(r)
 }
