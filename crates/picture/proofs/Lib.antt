@@ -1,3 +1,1 @@
 pub mod Samples
-pub mod Walks
-pub mod Pictures

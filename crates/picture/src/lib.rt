@@ -8,7 +8,7 @@ ghost use Rattle.picture.specs.OnFile.{numbers_of, samples_at, sample_of, Pictur
 
 use pixmap::Header;
 
-#[derive(Drop)]
+#[derive(Clone, Copy)]
 pub struct Picture<'a> {
     pub width: u32,
     pub height: u32,
@@ -16,7 +16,7 @@ pub struct Picture<'a> {
     pub raster: &'a [u8],
 }
 
-#[derive(Drop)]
+#[derive(Clone, Copy)]
 struct Numbers {
     width: u32,
     height: u32,
