@@ -70,10 +70,10 @@ module _ (n : ℕ) where
       → NearEntropy (m + total l) n (p * product l) e
   unfolding total log_sum product
   near_all {d} [] e h s x = let same : e ≡ d = omega arith in rw same (simp (mul-one, add-zero) x)
-  near_all {p} {d} (c ∷ l) e h s x =
+  near_all {m = m} {p = p} {d = d} (c ∷ l) e h s x =
       let k : c ≤ n = omega arith in
       let rest : e + log_sum l ≡ d + c * (L n - L c) + total l * L n = omega (arith, split c k) in
-      near_as (omega arith) (mul_assoc p (c ^ c) (product l)) refl (near_all l e (omega arith) rest (near_more c c (le_refl c) k x))
+      near_as (omega arith) (mul_assoc p (c ^ c) (product l)) refl (near_all {m = m + c} {p = p * c ^ c} {d = d + c * (L n - L c)} l e (omega arith) rest (near_more c c (le_refl c) k x))
 
   -- the first residual, the others of its count, and the other counts
   near_some : (l : List ℕ) (e : ℕ) → total l ≤ n → 1 ≤ total l → e + log_sum l ≡ total l * L n → NearEntropy (total l) n (product l) e

@@ -67,4 +67,4 @@ module _ {d n : ℕ} {r : ℕ → ℤ} {l : List ℕ} (small : (j : ℕ) → In 
 
 -- a number that the machine holds as it is
 pub read_back : {z : ℤ} → In 262144 262144 z → to_z w32 (of_z w32 z) ≡ z
-read_back {z} x = to_z-of_z (in_fits x (lit≤ tt) (lit< tt))
+read_back {z} x = to_z-of_z {w = w32} (in_fits x (lit≤ tt) (lit< tt))

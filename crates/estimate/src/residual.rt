@@ -20,9 +20,9 @@ fn greater(a: i32, b: i32) -> i32
 
 // MED of left a, above e and above-left c, as the median of a, e and a + e − c: it needs no branch.
 fn med(a: i32, e: i32, c: i32) -> i32
-    requires fact { In 262144 262144 a }
-    requires fact_2 { In 262144 262144 e }
-    requires fact_3 { In 262144 262144 c }
+    requires left_in { In 262144 262144 a }
+    requires above_in { In 262144 262144 e }
+    requires corner_in { In 262144 262144 c }
     ensures { result ≡ med a e c }
 {
     greater(lesser(a, e), lesser(greater(a, e), a + e - c))

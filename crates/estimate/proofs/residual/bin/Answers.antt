@@ -5,7 +5,6 @@ use lib.IntN.{ℤ, pos, nat_abs, ◌+ℤ◌, ◌-ℤ◌}
 use mir.Syntax.{w32}
 use mir.Val.{to_z, of_z}
 use mir.Facts.{to_z-of_z}
-use borrow.Author.Rules.{rules}
 use Rattle.integers.specs.Parts.{pos_part, In}
 use Rattle.integers.specs.Lists.{at}
 use Rattle.integers.proofs.Parts.{add_difference, nat_abs_parts}
@@ -15,39 +14,39 @@ use Rattle.stage.specs.Estimate.{residual}
 use Rattle.stage.proofs.Prediction.{prediction_in_range}
 use Rattle.estimate.specs.Counting.{bin}
 use Rattle.estimate.proofs.Bins.{within_residual, within_all, read_back}
-use Rattle.estimate.proofs.residual.bin.Statement.{statement}
-use Rattle.estimate.proofs.residual.bin.Tie as tie
+use Rattle.estimate.proofs.residual.bin.Goals as goal
+use Rattle.estimate.proofs.residual.bin.Goals.{After-z-1}
 
 abbrev stored : ℤ → ℤ
 stored z = to_z w32 (of_z w32 z)
 
-abbrev sample : tie.After-z → ℤ
+abbrev sample : After-z-1 → ℤ
 sample c = at c.before.before.args.plane.now c.before.before.args.i
 
-abbrev difference : tie.After-z → ℤ
-difference c = sample c -ℤ c.before.prediction.result
+abbrev difference : After-z-1 → ℤ
+difference c = sample c -ℤ c.before.prediction-p.result
 
-abbrev moved : tie.After-z → ℤ
+abbrev moved : After-z-1 → ℤ
 moved c = difference c +ℤ pos c.before.before.args.d
 
 -- every number here fits, and the last is no less than 0
-record Known (c : tie.After-z) : Type 0 where
+record Known (c : After-z-1) : Type 0 where
   sample_stored : stored (sample c) ≡ sample c
-  prediction_stored : stored c.before.prediction.result ≡ c.before.prediction.result
+  prediction_stored : stored c.before.prediction-p.result ≡ c.before.prediction-p.result
   difference_in : In 262144 262144 (difference c)
   d_stored : to_z w32 c.before.before.args.d ≡ pos c.before.before.args.d
   moved_in : In 0 524288 (moved c)
   value : pos_part (moved c) ≡ bin c.before.before.args.d (residual c.before.before.args.width c.before.before.args.plane.now c.before.before.args.i)
 
-known : (c : tie.After-z) → Known c
+known : (c : After-z-1) → Known c
 unfolding residual bin
 known c =
     let s = c.before.before in
     let d = s.args.d in
-    let p = s.requires.0 in
+    let p = s.requires.countable in
     let small = p.small in
     let a = within_all p.range small in
-    let e = c.before.prediction.ensures in
+    let e = c.before.prediction-p.ensures in
     let z : In d d (difference c) = rw e (within_residual s.args.width s.args.plane.now s.args.i p.range) in
     let m = add_difference (difference c) (pos d) in
     record {
@@ -59,29 +58,20 @@ known c =
       value = rw e;
     }
 
-whole : (c : tie.After-z) →
-    stored (stored (stored (sample c) -ℤ stored c.before.prediction.result) +ℤ to_z w32 c.before.before.args.d) ≡ moved c
+whole : (c : After-z-1) →
+    stored (stored (stored (sample c) -ℤ stored c.before.prediction-p.result) +ℤ to_z w32 c.before.before.args.d) ≡ moved c
 whole c =
     let k = known c in
-    rw (k.sample_stored, k.prediction_stored, read_back k.difference_in, k.d_stored) (to_z-of_z (in_fits k.moved_in (lit≤ tt) (lit< tt)))
+    rw (k.sample_stored, k.prediction_stored, read_back k.difference_in, k.d_stored) (to_z-of_z {w = w32} (in_fits k.moved_in (lit≤ tt) (lit< tt)))
 
-prediction_requires : tie.Need-prediction-requires
-prediction_requires c κs = let p = c.requires.0 in (p.across, (within_all p.range p.small, c.requires.1))
+pub prediction-p-requires : goal.prediction-p-requires
+prediction-p-requires c = let p = c.requires.countable in record { le_width = p.across; all_in = within_all p.range p.small; inside = c.requires.inside }
 
-mul_z : tie.Need-overflow-mul-z
-mul_z c = search rules
+pub overflow_sub-z : goal.overflow_sub-z
+overflow_sub-z c = let k = known c in rw (k.sample_stored, k.prediction_stored) (in_fits k.difference_in (lit≤ tt) (lit< tt))
 
-shared_slice_copy_out_z : tie.Need-shared-slice-copy-out-z
-shared_slice_copy_out_z c = search rules
-
-sub_z : tie.Need-overflow-sub-z
-sub_z c = let k = known c in rw (k.sample_stored, k.prediction_stored) (in_fits k.difference_in (lit≤ tt) (lit< tt))
-
-cast_result : tie.Need-overflow-cast-result
-cast_result c = search rules
-
-add_result : tie.Need-overflow-add-result
-add_result c =
+pub overflow_add-result : goal.overflow_add-result
+overflow_add-result c =
     let k = known c in
     rw (k.sample_stored, k.prediction_stored, read_back k.difference_in, k.d_stored) (in_fits k.moved_in (lit≤ tt) (lit< tt))
 
@@ -89,23 +79,10 @@ add_result c =
 magnitude : (z : ℤ) → In 0 524288 z → nat_abs z ≡ pos_part z
 magnitude z x = omega (arith, nat_abs_parts z)
 
-cast_result_2 : tie.Need-overflow-cast-result-2
-cast_result_2 c =
+pub overflow_cast-result-2 : goal.overflow_cast-result-2
+overflow_cast-result-2 c =
     let k = (known c).moved_in in
     rw (whole c) (nonneg_holds (moved c) (omega arith), record { fits = rw (magnitude (moved c) k) (omega arith) })
 
-returns : tie.Need-returns
+pub returns : goal.returns
 returns c = let k = known c in rw (whole c) (magnitude (moved c) k.moved_in ∙ k.value)
-
-pub bin_spec : {M : Type 1} → statement M
-bin_spec =
-    tie.close
-    (tie.spec
-    prediction_requires
-    mul_z
-    shared_slice_copy_out_z
-    sub_z
-    cast_result
-    add_result
-    cast_result_2
-    returns)
