@@ -33,6 +33,10 @@ signs true false n a d e h g = eq→eqb (nought n a d e h (none_below n g))
 
 same_equal : (k : ℕ) (x y : Float) (z : ℤ) → Finite k x z → Finite k y z → T (eq x y)
 unfolding eq
+same_equal k nan y z h j = absurd h
+same_equal k (inf r) y z h j = absurd h
+same_equal k (fin s m e) nan z h j = absurd j
+same_equal k (fin s m e) (inf r) z h j = absurd j
 same_equal k (fin s m e) (fin t n d) z h j =
     let q = same_size s t h.size j.size h.number j.number in
     and_i (eqb (m * up e * down d) (n * up d * down e)) (beq s t || eqb (m * up e * down d) 0)
@@ -54,6 +58,12 @@ sign_of true false n a d e p q h g = rw (no_size n a d e p q h (eqb→eq (a * e)
 
 equal_same : (k : ℕ) (x y : Float) (z : ℤ) → T (eq x y) → Finite k y z → Finite k x z
 unfolding eq
+equal_same k nan nan z g j = absurd g
+equal_same k nan (inf r) z g j = absurd g
+equal_same k (inf s) nan z g j = absurd g
+equal_same k (inf s) (inf r) z g j = absurd j
+equal_same k (fin s m e) nan z g j = absurd g
+equal_same k (fin s m e) (inf r) z g j = absurd g
 equal_same k nan (fin t n d) z g j = absurd g
 equal_same k (inf s) (fin t n d) z g j = absurd g
 equal_same k (fin s m e) (fin t n d) z g j =

@@ -52,6 +52,8 @@ once a p = omega arith
 
 -- a float that is q has q in its lowest 53 bits, but for the highest of them
 value_bits : (x : Float) (q : ℕ) → 2 ^ 52 ≤ q → q < 2 ^ 53 → HasValue x false q 1 → to_bits binary64 x ≡ 1074 * 2 ^ 52 + q
+value_bits nan q l h w = absurd w
+value_bits (inf r) q l h w = absurd w
 value_bits (fin s m e) q l h w =
     let v = scaled (2 ^ 1074) (m * up e * 1) (down e) q w.1 in
     bits_are s m e
@@ -63,6 +65,8 @@ value_bits (fin s m e) q l h w =
 -- ---- 2^52 added
 -- q, as the fraction q × d / d, is not rounded
 unit : (x : Float) (a d q : ℕ) → 0 < d → a ≡ q * d → HasValue x false a d → HasValue x false q 1
+unit nan a d q p h w = absurd w
+unit (inf r) a d q p h w = absurd w
 unit (fin s m e) a d q p h w =
     (w.0, cancel d (m * up e * 1) (q * down e) p (omega (arith, w.1, ap (λ (z : ℕ). z * down e) h)))
 
@@ -91,6 +95,8 @@ chosen false x y q t h = absurd t
 module _ (k n : ℕ) (l : n < 65536) where
   added : (x : Float) → Finite k x (pos 4 *ℤ pos n) → HasValue (add binary64 x high) false (2 ^ 52 + n) 1
   unfolding add sum
+  added nan h = absurd h
+  added (inf r) h = absurd h
   added (fin false m e) h =
       let q = (of_number k n false (m * up e) (down e) h).0 in
       exact (m * up e * 1 + 1 * 2 ^ 52 * down e) (down e * 1) (2 ^ 52 + n) (omega (arith, down_pos e)) (omega arith) (omega (arith, q))

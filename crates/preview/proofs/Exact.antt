@@ -34,6 +34,8 @@ pub cancel : (k a b : ℕ) → 0 < k → a * k ≡ b * k → a ≡ b
 cancel k a b p h = eq_of_mul-eq-mul_right k p a b h
 
 of_value : (s : Bool) (x : Float) (a d n : ℕ) → 0 < d → 4 * a ≡ n * d → HasValue x s a d → Four n x (signed s n)
+of_value s nan a d n p h w = absurd w
+of_value s (inf r) a d n p h w = absurd w
 of_value s (fin t m e) a d n p h w =
     record {
       exact =
@@ -58,6 +60,8 @@ rounded s a d n p small h =
 
 -- the same number, with a wider bound
 wider : (k l : ℕ) (x : Float) (y z : ℤ) → k ≤ l → y ≡ z → Finite k x y → Finite l x z
+wider k l nan y z le q w = absurd w
+wider k l (inf r) y z le q w = absurd w
 wider k l (fin s m e) y z le q w = record { size = w.size; small = omega (arith, w.small); is = w.is; number = w.number ∙ q }
 
 pub again : {k l : ℕ} {x : Float} {y z : ℤ} → k ≤ l → y ≡ z → Four k x y → Four l x z
@@ -66,6 +70,8 @@ again {k} {l} {x} {y} {z} le q w = record { exact = wider k l x y z le q w.exact
 -- ---- the number that a float is
 made : (k : ℕ) (x : Float) (z : ℤ) → Finite k x z → four_times x ≡ just z
 unfolding four_times
+made k nan z h = absurd h
+made k (inf r) z h = absurd h
 made k (fin s m e) z h =
     rw (h.is, mul-mod_left h.size (down e), mul-div_cancel h.size (down_pos e)) (ap just h.number)
 

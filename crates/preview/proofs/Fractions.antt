@@ -7,7 +7,7 @@ use native.Mathlib.Omega.{arith}
 use lib.Dec.{lit<}
 use lib.Pow.{pow_pos}
 use lib.IntN.{ℤ, pos, negsuc, neg_ℤ, nat_abs, ◌*ℤ◌}
-use lib.Ieee.{Float, fin, binary64, up, down, unlike, mul, of_int}
+use lib.Ieee.{Float, nan, inf, fin, binary64, up, down, unlike, mul, of_int}
 use lib.Ieee.Fits.{down_pos}
 use Rattle.integers.specs.Parts.{pos_part, neg_part}
 use Rattle.integers.proofs.Parts.{scale_parts, nat_abs_parts, eq_parts, pos_part_neg, neg_part_neg}
@@ -39,6 +39,8 @@ unlike_false true = refl
 
 parted : (i k : ℕ) (x : Float) (w : ℤ) → k < 2 ^ 53 → Finite k x (pos (2 ^ suc i) *ℤ w) → Four k (mul binary64 x (part i)) w
 unfolding mul
+parted i k nan w small h = absurd h
+parted i k (inf r) w small h = absurd h
 parted i k (fin s m e) w small h =
     let c = 2 ^ suc i in
     let q = signed_part s c h.size w (pow_pos (suc i)) h.number in

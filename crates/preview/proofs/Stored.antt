@@ -17,7 +17,7 @@ use Rattle.preview.proofs.Cuts.{high, low_bits}
 use Rattle.preview.proofs.Rows.{sized}
 
 pub stored : {z : ℤ} → In 0 65535 z → to_z w32 (of_z w32 z) ≡ z
-stored h = to_z-of_z (in_fits h (lit≤ tt) (lit< tt))
+stored h = to_z-of_z {w = w32} (in_fits h (lit≤ tt) (lit< tt))
 
 pub sample_is : {z : ℤ} → In 0 65535 z → Four (4 * 65535) (of_int binary64 z) (pos 4 *ℤ z)
 sample_is {z} h = int_is z (lit< tt) (sized {z = z} (record { low = omega (arith, h.low); high = h.high }))

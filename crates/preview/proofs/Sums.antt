@@ -6,7 +6,7 @@ use native.Mathlib.Nat.{mul-pos, le_of_mul-le-mul_right, le_of_lt}
 use native.Mathlib.Omega.{arith}
 use lib.Dec.{T, ltb, ltb→lt, nltb→le}
 use lib.IntN.{ℤ, neg_ℤ, ◌+ℤ◌, ◌-ℤ◌}
-use lib.Ieee.{Float, fin, binary64, up, down, round, sum, add, sub, neg}
+use lib.Ieee.{Float, nan, inf, fin, binary64, up, down, round, sum, add, sub, neg}
 use lib.Ieee.Fits.{down_pos}
 use Rattle.integers.proofs.Linear.{eq_lin, flat, count}
 use Rattle.preview.specs.Quarters.{signed}
@@ -80,6 +80,10 @@ crossed' M D v E h = omega (arith, ap (λ (z : ℕ). z * E) h)
 
 sum_of : (k l : ℕ) (x y : Float) (z w : ℤ) → k + l < 2 ^ 53 → Finite k x z → Finite l y w → Four (k + l) (add binary64 x y) (z +ℤ w)
 unfolding add
+sum_of k l nan y z w small h j = absurd h
+sum_of k l (inf r) y z w small h j = absurd h
+sum_of k l (fin s m e) nan z w small h j = absurd j
+sum_of k l (fin s m e) (inf r) z w small h j = absurd j
 sum_of k l (fin s m e) (fin t n d) z w small h j =
     again (omega (arith, h.small, j.small)) (ap (λ (u : ℤ). u +ℤ signed t j.size) h.number ∙ ap (λ (u : ℤ). z +ℤ u) j.number)
     (sum_is (m * up e * down d) (n * up d * down e) (down e * down d) h.size j.size (mul-pos (down_pos e) (down_pos d)) (omega (arith, h.small, j.small))
@@ -93,6 +97,8 @@ signed_not true n = eq_lin (simp flat (simp count (omega arith)))
 
 negated : (k : ℕ) (x : Float) (z : ℤ) → Finite k x z → Finite k (neg x) (neg_ℤ z)
 unfolding neg
+negated k nan z h = absurd h
+negated k (inf r) z h = absurd h
 negated k (fin s m e) z h = record { size = h.size; small = h.small; is = h.is; number = signed_not s h.size ∙ ap neg_ℤ h.number }
 
 module _ {k l : ℕ} {x y : Float} {z w : ℤ} (small : k + l < 2 ^ 53) (h : Four k x z) (j : Four l y w) where
