@@ -1,11 +1,11 @@
 // A generated picture through the calls, and whether it comes back.
 ghost use Rattle.stage.specs.Settings.{UpTo16};
 
-use std::io;
 use crate::text::{print_answer, print_planes};
 use case_pictures::{is_filled, levels};
 use case_text::print;
 use stage::{Depths, Plan};
+use std::io;
 use transform::{forward, inverse};
 
 // A picture's depths, and the generator's number before each of its planes.
@@ -18,7 +18,13 @@ pub(crate) struct Generated {
 }
 
 // Whether the planes hold the picture.
-pub(crate) fn print_compared<R: Print>(rt: &R, p: Generated, c1: &[i32], c2: &[i32], c3: &[i32]) -> io::Result<()>
+pub(crate) fn print_compared<R: Print>(
+    rt: &R,
+    p: Generated,
+    c1: &[i32],
+    c2: &[i32],
+    c3: &[i32],
+) -> io::Result<()>
     requires { UpTo16 p.depths }
 {
     let first = is_filled(c1, levels(p.depths.c1), p.x1);
@@ -31,19 +37,29 @@ pub(crate) fn print_compared<R: Print>(rt: &R, p: Generated, c1: &[i32], c2: &[i
     }
 }
 
-fn run<R: Print>(rt: &R, plan: Plan, choices: &[u8], c1: &mut [i32], c2: &mut [i32], c3: &mut [i32]) -> io::Result<()> {
+fn run<R: Print>(
+    rt: &R,
+    plan: Plan,
+    choices: &[u8],
+    c1: &mut [i32],
+    c2: &mut [i32],
+    c3: &mut [i32],
+) -> io::Result<()> {
     let a = forward(plan, choices, c1, c2, c3);
     print_answer(rt, b"forward", a)?;
     print_planes(rt, c1, c2, c3)?;
     print(rt, b"\n")
 }
 
-pub(crate) fn undo<R: Print>(rt: &R, plan: Plan,
+pub(crate) fn undo<R: Print>(
+    rt: &R,
+    plan: Plan,
     p: Generated,
     choices: &[u8],
     c1: &mut [i32],
     c2: &mut [i32],
-    c3: &mut [i32],) -> io::Result<()>
+    c3: &mut [i32],
+) -> io::Result<()>
     requires { UpTo16 p.depths }
 {
     let a = inverse(plan, choices, c1, c2, c3);
@@ -51,12 +67,15 @@ pub(crate) fn undo<R: Print>(rt: &R, plan: Plan,
     print_compared(rt, p, c1, c2, c3)
 }
 
-pub(crate) fn there_and_back<R: Print>(rt: &R, plan: Plan,
+pub(crate) fn there_and_back<R: Print>(
+    rt: &R,
+    plan: Plan,
     p: Generated,
     choices: &[u8],
     c1: &mut [i32],
     c2: &mut [i32],
-    c3: &mut [i32],) -> io::Result<()>
+    c3: &mut [i32],
+) -> io::Result<()>
     requires { UpTo16 p.depths }
 {
     run(rt, plan, choices, c1, c2, c3)?;

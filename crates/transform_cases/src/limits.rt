@@ -1,8 +1,8 @@
 // The limits that 01 names, from both sides, a case of each other refusal, and null steps, in both forms.
-use std::io;
 use crate::text::{print_answer, print_choices, print_form, print_planes};
 use case_text::print;
 use stage::{Bands, Depths, Form, Plan, Settings, each};
+use std::io;
 use transform::{forward, inverse};
 
 fn settings(width: u32, height: u32, depths: Depths, transform: u32) -> Settings {
@@ -23,21 +23,40 @@ fn without_bands(form: Form, s: Settings) -> Plan {
 }
 
 // Forward and, on what that leaves, back. Only the answers are printed.
-fn answers_in<R: Print>(rt: &R, form: Form, width: u32, height: u32, c1: &mut [i32], c2: &mut [i32], c3: &mut [i32]) -> io::Result<()> {
+fn answers_in<R: Print>(
+    rt: &R,
+    form: Form,
+    width: u32,
+    height: u32,
+    c1: &mut [i32],
+    c2: &mut [i32],
+    c3: &mut [i32],
+) -> io::Result<()> {
     let s = settings(width, height, each(8), 0);
     let choices = [1u8; 4];
     print_choices(rt, s, &choices)?;
     print_form(rt, form)?;
-    print_answer(rt, b" forward",
+    print_answer(
+        rt,
+        b" forward",
         forward(without_bands(form, s), &choices, c1, c2, c3),
     )?;
-    print_answer(rt, b" inverse",
+    print_answer(
+        rt,
+        b" inverse",
         inverse(without_bands(form, s), &choices, c1, c2, c3),
     )?;
     print(rt, b"\n")
 }
 
-fn answers<R: Print>(rt: &R, width: u32, height: u32, c1: &mut [i32], c2: &mut [i32], c3: &mut [i32]) -> io::Result<()> {
+fn answers<R: Print>(
+    rt: &R,
+    width: u32,
+    height: u32,
+    c1: &mut [i32],
+    c2: &mut [i32],
+    c3: &mut [i32],
+) -> io::Result<()> {
     answers_in(rt, Form::Plain, width, height, c1, c2, c3)?;
     answers_in(rt, Form::Wrapped, width, height, c1, c2, c3)
 }
@@ -60,7 +79,15 @@ fn too_long<R: Print>(rt: &R) -> io::Result<()> {
 }
 
 // Forward and back of one pixel.
-fn pixel_in<R: Print>(rt: &R, form: Form, s: Settings, choices: &[u8], red: i32, green: i32, blue: i32) -> io::Result<()> {
+fn pixel_in<R: Print>(
+    rt: &R,
+    form: Form,
+    s: Settings,
+    choices: &[u8],
+    red: i32,
+    green: i32,
+    blue: i32,
+) -> io::Result<()> {
     let mut c1 = [red];
     let mut c2 = [green];
     let mut c3 = [blue];
@@ -77,7 +104,14 @@ fn pixel_in<R: Print>(rt: &R, form: Form, s: Settings, choices: &[u8], red: i32,
     print(rt, b"\n")
 }
 
-fn pixel<R: Print>(rt: &R, s: Settings, choices: &[u8], red: i32, green: i32, blue: i32) -> io::Result<()> {
+fn pixel<R: Print>(
+    rt: &R,
+    s: Settings,
+    choices: &[u8],
+    red: i32,
+    green: i32,
+    blue: i32,
+) -> io::Result<()> {
     pixel_in(rt, Form::Plain, s, choices, red, green, blue)?;
     pixel_in(rt, Form::Wrapped, s, choices, red, green, blue)
 }
@@ -108,8 +142,16 @@ fn of_samples<R: Print>(rt: &R, red: i32, green: i32, blue: i32) -> io::Result<(
     Ok(())
 }
 
-fn of_settings<R: Print>(rt: &R, width: u32, height: u32, transform: u32, choices: &[u8]) -> io::Result<()> {
-    pixel(rt, settings(width, height, each(8), transform),
+fn of_settings<R: Print>(
+    rt: &R,
+    width: u32,
+    height: u32,
+    transform: u32,
+    choices: &[u8],
+) -> io::Result<()> {
+    pixel(
+        rt,
+        settings(width, height, each(8), transform),
         choices,
         10,
         200,

@@ -9,9 +9,9 @@ mod pictures;
 mod text;
 mod wrapped;
 
-use std::io;
 use limits::limits;
 use pictures::pictures;
+use std::io;
 
 fn main(rt: HostRuntime) -> io::Result<()> {
     limits(&rt)?;

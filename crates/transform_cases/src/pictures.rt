@@ -3,7 +3,6 @@
 ghost use Rattle.std.specs.Prelude.{◌≤◌};
 ghost use Rattle.stage.specs.Settings.{UpTo16};
 
-use std::io;
 use crate::bands::{band_count, band_rows, places, sets};
 use crate::generated::{Generated, there_and_back, undo};
 use crate::text::{print_answer, print_bands, print_choices, print_planes};
@@ -11,6 +10,7 @@ use crate::wrapped::wrap;
 use case_pictures::{choice, fill, levels};
 use case_text::{print, print_field, print_sample};
 use stage::{Answer, Bands, Depths, Form, Plan, Settings};
+use std::io;
 use transform::{forward, inverse};
 
 // Puts a number at an index and answers the number that stood there.
@@ -33,7 +33,14 @@ fn replace_in(c1: &mut [i32], c2: &mut [i32], c3: &mut [i32], plane: u32, i: usi
 }
 
 // The inverse of damaged planes. What it accepts, as another picture goes there, is printed and run again.
-fn undo_damaged<R: Print>(rt: &R, plan: Plan, choices: &[u8], c1: &mut [i32], c2: &mut [i32], c3: &mut [i32]) -> io::Result<()> {
+fn undo_damaged<R: Print>(
+    rt: &R,
+    plan: Plan,
+    choices: &[u8],
+    c1: &mut [i32],
+    c2: &mut [i32],
+    c3: &mut [i32],
+) -> io::Result<()> {
     let a = inverse(plan, choices, c1, c2, c3);
     print_answer(rt, b" inverse", a)?;
     let Answer::Done = a else {
@@ -47,13 +54,16 @@ fn undo_damaged<R: Print>(rt: &R, plan: Plan, choices: &[u8], c1: &mut [i32], c2
 }
 
 // Forward again; then the middle number of a finished plane is replaced by z, and put back when the inverse was tried.
-fn damage<R: Print>(rt: &R, plan: Plan,
+fn damage<R: Print>(
+    rt: &R,
+    plan: Plan,
     choices: &[u8],
     c1: &mut [i32],
     c2: &mut [i32],
     c3: &mut [i32],
     plane: u32,
-    z: i32,) -> io::Result<()> {
+    z: i32,
+) -> io::Result<()> {
     forward(plan, choices, c1, c2, c3);
     let middle = c1.len() / 2;
     print_field(rt, b"plane", plane)?;
@@ -75,17 +85,22 @@ fn damaged_number(kind: u32) -> i32 {
     }
 }
 
-fn show_plain<R: Print>(rt: &R, k: u32,
+fn show_plain<R: Print>(
+    rt: &R,
+    k: u32,
     plan: Plan,
     p: Generated,
     choices: &[u8],
     c1: &mut [i32],
     c2: &mut [i32],
-    c3: &mut [i32],) -> io::Result<()>
+    c3: &mut [i32],
+) -> io::Result<()>
     requires { UpTo16 p.depths }
 {
     there_and_back(rt, plan, p, choices, c1, c2, c3)?;
-    damage(rt, plan,
+    damage(
+        rt,
+        plan,
         choices,
         c1,
         c2,
@@ -96,13 +111,16 @@ fn show_plain<R: Print>(rt: &R, k: u32,
     undo(rt, plan, p, choices, c1, c2, c3)
 }
 
-fn show<R: Print>(rt: &R, k: u32,
+fn show<R: Print>(
+    rt: &R,
+    k: u32,
     plan: Plan,
     p: Generated,
     choices: &[u8],
     c1: &mut [i32],
     c2: &mut [i32],
-    c3: &mut [i32],) -> io::Result<()>
+    c3: &mut [i32],
+) -> io::Result<()>
     requires { UpTo16 p.depths }
 {
     let bands = plan.bands;
@@ -116,7 +134,15 @@ fn show<R: Print>(rt: &R, k: u32,
 }
 
 // Fills the planes with the picture of a number.
-fn fill_and_show<R: Print>(rt: &R, k: u32, plan: Plan, choices: &[u8], c1: &mut [i32], c2: &mut [i32], c3: &mut [i32]) -> io::Result<()>
+fn fill_and_show<R: Print>(
+    rt: &R,
+    k: u32,
+    plan: Plan,
+    choices: &[u8],
+    c1: &mut [i32],
+    c2: &mut [i32],
+    c3: &mut [i32],
+) -> io::Result<()>
     requires { UpTo16 plan.settings.depths }
 {
     let s = plan.settings;
@@ -134,7 +160,14 @@ fn fill_and_show<R: Print>(rt: &R, k: u32, plan: Plan, choices: &[u8], c1: &mut 
 }
 
 // In the plain form.
-fn lend<R: Print>(rt: &R, k: u32, bands: Bands, s: Settings, choices: &[u8], n: usize) -> io::Result<()>
+fn lend<R: Print>(
+    rt: &R,
+    k: u32,
+    bands: Bands,
+    s: Settings,
+    choices: &[u8],
+    n: usize,
+) -> io::Result<()>
     requires { UpTo16 s.depths × (n ≤ 20) }
 {
     let plan = Plan {
@@ -145,7 +178,15 @@ fn lend<R: Print>(rt: &R, k: u32, bands: Bands, s: Settings, choices: &[u8], n: 
     let mut c1 = [0i32; 20];
     let mut c2 = [0i32; 20];
     let mut c3 = [0i32; 20];
-    fill_and_show(rt, k, plan, choices, &mut c1[..n], &mut c2[..n], &mut c3[..n])
+    fill_and_show(
+        rt,
+        k,
+        plan,
+        choices,
+        &mut c1[..n],
+        &mut c2[..n],
+        &mut c3[..n],
+    )
 }
 
 // With the filters of picture k, as many as its transform has places.

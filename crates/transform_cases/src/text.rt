@@ -1,7 +1,7 @@
 // Pieces of the lines that are printed.
-use std::io;
 use case_text::{print, print_field, print_filters, print_sample, print_settings};
 use stage::{Answer, Bands, Form, Settings};
+use std::io;
 
 // A number behind a blank.
 fn print_next<R: Print>(rt: &R, z: i32) -> io::Result<()> {

@@ -1,27 +1,37 @@
 // The generated pictures in the wrapped forms.
 ghost use Rattle.stage.specs.Settings.{UpTo16};
 
-use std::io;
 use crate::generated::{Generated, print_compared, there_and_back};
 use crate::text::{print_answer, print_planes};
 use case_text::{print, print_field};
 use stage::{Form, Plan, Settings, each};
+use std::io;
 use transform::{forward, inverse};
 
 // The picture taken for finished planes, and what is left taken there again.
-fn undo_picture<R: Print>(rt: &R, plan: Plan, choices: &[u8], c1: &mut [i32], c2: &mut [i32], c3: &mut [i32]) -> io::Result<()> {
+fn undo_picture<R: Print>(
+    rt: &R,
+    plan: Plan,
+    choices: &[u8],
+    c1: &mut [i32],
+    c2: &mut [i32],
+    c3: &mut [i32],
+) -> io::Result<()> {
     let a = inverse(plan, choices, c1, c2, c3);
     print_answer(rt, b"inverse", a)?;
     print_planes(rt, c1, c2, c3)?;
     print(rt, b"\n")
 }
 
-fn run_again<R: Print>(rt: &R, plan: Plan,
+fn run_again<R: Print>(
+    rt: &R,
+    plan: Plan,
     p: Generated,
     choices: &[u8],
     c1: &mut [i32],
     c2: &mut [i32],
-    c3: &mut [i32],) -> io::Result<()>
+    c3: &mut [i32],
+) -> io::Result<()>
     requires { UpTo16 p.depths }
 {
     let a = forward(plan, choices, c1, c2, c3);
@@ -45,12 +55,15 @@ fn deepest(s: Settings) -> Settings {
 }
 
 // The picture in the wrapped form, with the deepest depth for all planes: there and back, then back and there.
-pub(crate) fn wrap<R: Print>(rt: &R, plan: Plan,
+pub(crate) fn wrap<R: Print>(
+    rt: &R,
+    plan: Plan,
     p: Generated,
     choices: &[u8],
     c1: &mut [i32],
     c2: &mut [i32],
-    c3: &mut [i32],) -> io::Result<()>
+    c3: &mut [i32],
+) -> io::Result<()>
     requires { UpTo16 p.depths }
 {
     let bands = plan.bands;
