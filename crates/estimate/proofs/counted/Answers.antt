@@ -2,9 +2,6 @@ use native.Mathlib.Omega.{arith}
 use Rattle.stage.specs.Estimate.{counted}
 use Rattle.estimate.proofs.counted.Goals as goal
 
-pub overflow_cast-result : goal.overflow_cast-result
-overflow_cast-result c = record { fits = omega (arith, c.if-t-lt4096.true) }
-
 pub returns-then-t-lt4096 : goal.returns-then-t-lt4096
 unfolding counted
 returns-then-t-lt4096 c = omega (arith, c.if-t-lt4096.true)

@@ -3,12 +3,6 @@ use Rattle.estimate.proofs.Occurrences.{occurrences_listed}
 use Rattle.estimate.proofs.Estimates.{plane_size, plane_bins, plane_difference}
 use Rattle.estimate.proofs.plane_estimate.Goals as goal
 
-pub overflow_mul-all : goal.overflow_mul-all
-overflow_mul-all c = record { fits = omega (arith, c.requires.plane.small) }
-
-pub overflow_add-all : goal.overflow_add-all
-overflow_add-all c = record { fits = omega (arith, c.requires.plane.small) }
-
 -- the residuals are counted, n of them, by counters up to 2 × d
 pub sum_and_clear-sum-requires : goal.sum_and_clear-sum-requires
 sum_and_clear-sum-requires c =

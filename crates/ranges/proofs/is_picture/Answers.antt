@@ -1,4 +1,3 @@
-use mathlib.Core.Path.{refl}
 use native.Mathlib.Omega.{arith}
 use Rattle.stage.specs.declared.Plane.TheVariants.{C1, C2, C3}
 use Rattle.ranges.proofs.is_picture.Goals as goal
@@ -11,6 +10,3 @@ all_fit-requires-2 c = let most = c.before.requires.depth_most in omega (arith, 
 
 pub all_fit-requires-3 : goal.all_fit-requires-3
 all_fit-requires-3 c = let most = c.before.before.requires.depth_most in omega (arith, most C1, most C2, most C3)
-
-pub returns : goal.returns
-returns c = rw (c.before.before.all_fit.ensures, c.before.all_fit-2.ensures, c.all_fit-3.ensures) refl

@@ -16,6 +16,7 @@ log_product-sum-requires-clause-c_bound c = let l = c.loop-k in rw (l.invariant.
 pub overflow_add-sum : goal.overflow_add-sum
 overflow_add-sum c =
     let l = c.loop-k in
+    -- this turn's counter is there
     let inside : l.k < length l.counters = omega (arith, l.invariant.long) in
     record { fits = omega (arith, c.log_product-sum.ensures, log_sum_less l.counters l.k inside, l.invariant.sum, c.requires.summable.most) }
 

@@ -27,12 +27,9 @@ turn {j} {a} p e s i h =
     let x = index_is t j p.some i s in
     record { index = x; inside = omega (arith, x, ((counted_rule t p.some).inside j).0 k); room = omega (arith, counted_most t) }
 
--- the number of its counter
+-- its counter's number
 most : {w d x : ℕ} {a : List ℤ} → Countable w d a → (i : ℕ) → x ≡ bin d (residual w a i) → x ≤ 2 * d
 most {w} {d} {a} p i e = rw e (bin_most d _ (within_residual w a i p.range))
-
-pub nonzero_rem-step : goal.nonzero_rem-step
-nonzero_rem-step c = omega (arith, c.requires.countable.across)
 
 pub loop-j-init : goal.loop-j-init
 loop-j-init c =
@@ -66,7 +63,7 @@ bin-x-requires c =
 pub bounds-bins-j : goal.bounds-bins-j
 bounds-bins-j c = (turn c.requires.countable c.requires.n_value c.spacing-every.ensures c.loop-j.invariant.index c.loop-j-test.true).room
 
--- there is such a counter
+-- there is a counter of that number
 pub bounds-counters-x : goal.bounds-counters-x
 bounds-counters-x c = omega (arith, most c.requires.countable _ c.bin-x.ensures, c.requires.counters.enough, c.loop-j.invariant.long)
 
@@ -87,6 +84,7 @@ overflow_add-at c =
 pub add_modulo-across-requires : goal.add_modulo-across-requires
 add_modulo-across-requires c =
     let p = c.requires.countable in
+    -- a row in 4096ths is not empty
     let some : 0 < c.args.width * 4096 = omega (arith, p.across) in
     record { m_bound = omega (arith, p.narrow); x_lt_m = (rw c.loop-j.invariant.column (mod-lt _ some), mod-lt _ some) }
 
