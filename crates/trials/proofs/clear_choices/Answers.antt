@@ -1,0 +1,18 @@
+use native.Mathlib.Omega.{arith}
+use borrow.Author.Rules.{rules}
+use Rattle.integers.proofs.Copies.{cleared_none, cleared_more, cleared_all}
+use Rattle.trials.proofs.clear_choices.Goals as goal
+
+pub loop-i-init : goal.loop-i-init
+loop-i-init c = (search rules, cleared_none 0 _)
+
+pub loop-i-preserved : goal.loop-i-preserved
+loop-i-preserved c =
+    let l = c.loop-i in
+    (l.invariant.0, cleared_more 0 l.invariant.1 (omega arith))
+
+pub shape_of-choices : goal.shape_of-choices
+shape_of-choices c = c.loop-i.invariant.1.long
+
+pub returns : goal.returns
+returns c = cleared_all 0 c.loop-i.invariant.1 (omega arith)
