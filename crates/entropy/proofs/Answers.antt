@@ -87,6 +87,6 @@ calls_near s e = record {
   estimate = λ p φ m a. estimate_near s p (scratch_fits s (lengths m.trials) (length m.counters)) (cleared_scratch m) e φ m a;
   search = λ p rounds m a.
       let l = m.scratch in search_near s p (scratch_fits s (lengths l.trials) (length l.counters)) (cleared_scratch l) e rounds m a;
-  estimate_in_place_lem = λ φ m a. estimate_near s m.trials (counters_fit s (length m.counters)) (cleared_counters m) e φ m a;
-  search_in_place_lem = λ rounds m a. let l = m.scratch in search_near s l.trials (counters_fit s (length l.counters)) (cleared_counters l) e rounds m a;
+  estimate_in_place = λ φ m a. estimate_near s m.trials (counters_fit s (length m.counters)) (cleared_counters m) e φ m a;
+  search_in_place = λ rounds m a. let l = m.scratch in search_near s l.trials (counters_fit s (length l.counters)) (cleared_counters l) e rounds m a;
 }

@@ -56,8 +56,8 @@ pub record AnswersNear (s : Settings) (e : Estimated) : Type 0 where
   pub estimate : (p : Planes) (φ : List ℕ) (scratch : Scratch) → (estimate_call s p φ scratch).reply ≡ done e → AnswerNear s p φ e
   pub search : (p : Planes) (rounds : ℕ) (lent : Lent) → (search_call s p rounds lent).reply ≡ done e
       → AnswerNear s p (search_call s p rounds lent).memory.choices e
-  pub estimate_in_place_lem : (φ : List ℕ) (scratch : Scratch) → (estimate_in_place s φ scratch).reply ≡ done e → AnswerNear s scratch.trials φ e
-  pub search_in_place_lem : (rounds : ℕ) (lent : Lent) → (search_in_place s rounds lent).reply ≡ done e
+  pub estimate_in_place : (φ : List ℕ) (scratch : Scratch) → (estimate_in_place s φ scratch).reply ≡ done e → AnswerNear s scratch.trials φ e
+  pub search_in_place : (rounds : ℕ) (lent : Lent) → (search_in_place s rounds lent).reply ≡ done e
       → AnswerNear s lent.scratch.trials (search_in_place s rounds lent).memory.choices e
 
 abbrev pub CallsNear : Type 0

@@ -47,14 +47,14 @@ pub sfits_shr : {z : ℤ} {w : Width} (d : ℕ) → SFits w z → SFits w (floor
 sfits_shr {z = pos n} d x = record { sfits = le_trans (suc-le-suc (div-le_self n d)) x.sfits }
 sfits_shr {z = negsuc n} d x = record { sfits = le_trans (suc-le-suc (div-le_self n d)) x.sfits }
 
--- for `search (needs, in-sums)`: a sum or a difference of two numbers whose ranges are in reach
+-- for `search (rules, in_sums)`: a sum or a difference of two numbers whose ranges are in reach
 pub fit_add : {k l m n : ℕ} {x y : ℤ} {w : Width} → In k l x → In m n y → T (leb (k + m) (2 ^ hbits w)) → T (ltb (l + n) (2 ^ hbits w)) → SFits w (x +ℤ y)
 fit_add x y p q = in_fits (in_add x y) (lit≤ p) (ltb→lt _ _ q)
 
 pub fit_sub : {k l m n : ℕ} {x y : ℤ} {w : Width} → In k l x → In m n y → T (leb (k + n) (2 ^ hbits w)) → T (ltb (l + m) (2 ^ hbits w)) → SFits w (x -ℤ y)
 fit_sub x y p q = in_fits (in_sub x y) (lit≤ p) (ltb→lt _ _ q)
 
-pub ruleset in-sums = (fit_add, fit_sub, sfits_shr)
+pub ruleset in_sums = (fit_add, fit_sub, sfits_shr)
 
 -- equal bits, equal numbers
 pub of_z_inj : {w : Width} {x y : ℤ} → SFits w x → SFits w y → of_z w x ≡ of_z w y → x ≡ y

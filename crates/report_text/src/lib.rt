@@ -5,14 +5,14 @@ mod lines;
 mod pixmaps;
 mod searches;
 
-ghost use Rattle.std.specs.Prelude.{◌≤◌, length, IfOk};
+ghost use Rattle.std.specs.Prelude.{◌≤◌, length};
 ghost use Rattle.report_text.specs.Report.{report_of};
 ghost use Rattle.report_text.specs.Promises.{report_room, ReportAt, OutputIs, Printed};
 
 use lines::put_refusal;
 use pixmap::Header;
 use pixmaps::put_pixmap;
-use std::io::{self, Read};
+use std::io::Read;
 
 fn put_report(text: &mut [u8], file: &[u8]) -> usize
     requires { report_room ≤ length text.old }
@@ -50,28 +50,28 @@ pub fn report(file: &[u8]) -> Output
     }
 }
 
-// Reads until the buffer is full or the input ends, and answers how many bytes stand at its front.
-fn read_full<R: Read>(input: &mut R, buffer: &mut [u8]) -> io::Result<usize>
-    ensures { IfOk result (λ n. n ≤ length buffer.new) }
+// Reads until the buffer is full, the input ends or a read fails, and answers how many bytes stand at its front.
+fn read_full<R: Read>(input: &mut R, buffer: &mut [u8]) -> usize
+    ensures { result ≤ length buffer.new }
 {
     let mut count = 0;
     while count < buffer.len() {
-        let n = input.read(&mut buffer[count..])?;
-        if n == 0 {
-            break;
+        match input.read(&mut buffer[count..]) {
+            Ok(0) | Err(_) => break,
+            Ok(n) => count += n,
         }
-        count += n;
     }
-    Ok(count)
+    count
 }
 
 // Prints the report on what an input gives, of which 8,193 bytes are enough to refuse it. Answers what it hands over to be written.
-pub fn print_report<P: Print, R: Read>(rt: &P, input: &mut R) -> io::Result<Output>
-    ensures { IfOk result Printed }
+pub fn print_report<P: Print, R: Read>(rt: &P, input: &mut R) -> Output
+    ensures { Printed result }
 {
     let mut buffer = [0u8; 8193];
-    let n = read_full(input, &mut buffer)?;
+    let n = read_full(input, &mut buffer);
     let r = report(&buffer[..n]);
-    rt.write_all(&r.text[..r.length])?;
-    Ok(r)
+    match rt.write_all(&r.text[..r.length]) {
+        Ok(()) | Err(_) => r,
+    }
 }

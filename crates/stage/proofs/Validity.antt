@@ -43,9 +43,9 @@ counters_told s a =
 -- lengths l, have the picture's size.
 pub record ValidSettings (κ : Form) (β : Bands) (s : Settings) (choices : Bool) (l : Triple ℕ) : Type 0 where
   pub allowed : Allowed s
-  pub depths_suit_lem : T (depths_suit κ s.depths)
-  pub bands_suit_lem : T (bands_suit β s.height)
-  pub choices_fit_lem : T choices
+  pub depths_suit : T (depths_suit κ s.depths)
+  pub bands_suit : T (bands_suit β s.height)
+  pub choices_fit : T choices
   pub size : (c : Plane) → get l c ≡ pixels s
 
 pub settings_iff : (κ : Form) (β : Bands) (s : Settings) (choices : Bool) (l : Triple ℕ) → Holds (settings_tests κ β s choices l) ↔ ValidSettings κ β s choices l
@@ -63,16 +63,16 @@ settings_iff κ β s choices l =
           depth_most = λ c. (depths.0 k.1.0 c).1;
           transform_most = leb→le s.transform 3 k.1.1.1.0;
         };
-        depths_suit_lem = k.1.1.0;
-        bands_suit_lem = k.1.1.1.1.0;
-        choices_fit_lem = k.1.1.1.1.1.0;
+        depths_suit = k.1.1.0;
+        bands_suit = k.1.1.1.1.0;
+        choices_fit = k.1.1.1.1.1.0;
         size = all.0 k.1.1.1.1.1.1.0;
       },
       λ v. let a = v.allowed in (
         size.1 ((a.width_least, a.width_most), (a.height_least, a.height_most)),
         (
           depths.1 (λ c. (a.depth_least c, a.depth_most c)),
-          (v.depths_suit_lem, (le→leb s.transform 3 a.transform_most, (v.bands_suit_lem, (v.choices_fit_lem, (all.1 v.size, tt))))),
+          (v.depths_suit, (le→leb s.transform 3 a.transform_most, (v.bands_suit, (v.choices_fit, (all.1 v.size, tt))))),
         ),
       ),
     )
@@ -89,9 +89,9 @@ pub fit_iff : (κ : Form) (β : Bands) (s : Settings) (φ : List ℕ) (p : Plane
     → Holds (settings_tests κ β s (choices_fit β s φ) (lengths p)) ↔ (Fit κ β s φ × HasSize s p)
 fit_iff κ β s φ p =
     let i = settings_iff κ β s (choices_fit β s φ) (lengths p) in (
-      λ h. let v = i.0 h in (record { allowed = v.allowed; depths = v.depths_suit_lem; bands = v.bands_suit_lem; choices = v.choices_fit_lem }, has_size p v),
+      λ h. let v = i.0 h in (record { allowed = v.allowed; depths = v.depths_suit; bands = v.bands_suit; choices = v.choices_fit }, has_size p v),
       λ k. let f = k.0 in
-          i.1 (record { allowed = f.allowed; depths_suit_lem = f.depths; bands_suit_lem = f.bands; choices_fit_lem = f.choices; size = λ c. length_at p c ∙ k.1 c }),
+          i.1 (record { allowed = f.allowed; depths_suit = f.depths; bands_suit = f.bands; choices_fit = f.choices; size = λ c. length_at p c ∙ k.1 c }),
     )
 
 -- how many pixels a picture has

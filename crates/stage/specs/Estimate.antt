@@ -6,7 +6,7 @@ use Rattle.integers.specs.Lists.{at}
 use Rattle.stage.specs.Planes.{Planes}
 use Rattle.stage.specs.Logarithm.{L}
 
--- MED, from left a, above e and above_left c, which are 01's letters: the lesser of a and e if c is at least both, the greater if c
+-- MED, from left a, above e and above-left c, which are 01's letters: the lesser of a and e if c is at least both, the greater if c
 -- is at most both, else a + e − c
 unfoldable pub med : (a e c : ℤ) → ℤ
 med a e c = cond (le_z a c && le_z e c) (cond (le_z a e) a e) (cond (le_z c a && le_z c e) (cond (le_z a e) e a) (a +ℤ e -ℤ c))

@@ -74,7 +74,7 @@ module _ (κ : Form) (β : Bands) (s : Settings) (φ : List ℕ) (p : Planes) (h
   size = has_size p valid
 
   fit : (n : ℕ) → n ≡ length (steps s.transform) → StepsFit β s φ 0 n
-  fit n all = record { transform = valid.allowed.transform_most; order = omega arith; last = omega (arith, all); depth = valid.allowed.depth_most C1; bands = valid.bands_suit_lem; choices = valid.choices_fit_lem }
+  fit n all = record { transform = valid.allowed.transform_most; order = omega arith; last = omega (arith, all); depth = valid.allowed.depth_most C1; bands = valid.bands_suit; choices = valid.choices_fit }
 
   -- a picture, through all steps either way
   module _ (n : ℕ) (all : n ≡ length (steps s.transform)) (i : is_picture s p ≡ true) where
@@ -82,11 +82,11 @@ module _ (κ : Form) (β : Bands) (s : Settings) (φ : List ℕ) (p : Planes) (h
     samples = (within_ranges_iff (sample_ranges s) p).0 (true_holds i)
 
     pub forward_ready : RunReady κ β s φ 0 n p
-    forward_ready = ready_run valid.allowed.depth_most κ β valid.depths_suit_lem (fit n all) (picture_first (record { size = size; samples = samples }))
+    forward_ready = ready_run valid.allowed.depth_most κ β valid.depths_suit (fit n all) (picture_first (record { size = size; samples = samples }))
 
     pub back_ready : UndoReady κ β s φ 0 n p
     back_ready =
-        ready_inverse valid.allowed.depth_most κ β valid.depths_suit_lem (fit n all) all size
+        ready_inverse valid.allowed.depth_most κ β valid.depths_suit (fit n all) all size
         (in_inside (sample_ranges s) (finished_ranges s) (ranges_grow (steps s.transform) (sample_ranges s)) p samples)
 
 -- ---- the plain inverse

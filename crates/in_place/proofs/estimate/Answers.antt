@@ -52,7 +52,7 @@ estimate_picture-e-requires c =
     let a = c.args in
     record {
       picture_ready = ready a.settings a.choices.now (triple a.c1.now a.c2.now a.c3.now) a.counters.now c.choices_fit-fit.ensures c.counters_refusal-refused.ensures c.if-refused-ne0.false (sym c.is_picture.ensures ∙ c.if-not-is_picture.false) c.clear_counters.ensures;
-      t = (past a.settings a.choices.now (triple a.c1.now a.c2.now a.c3.now) a.counters.now c.choices_fit-fit.ensures c.counters_refusal-refused.ensures c.if-refused-ne0.false).settings.choices_fit_lem;
+      t = (past a.settings a.choices.now (triple a.c1.now a.c2.now a.c3.now) a.counters.now c.choices_fit-fit.ensures c.counters_refusal-refused.ensures c.if-refused-ne0.false).settings.choices_fit;
     }
 
 pub returns : goal.returns

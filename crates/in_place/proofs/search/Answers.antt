@@ -63,7 +63,7 @@ search_picture-won-requires c =
     let a = c.args in
     record {
       picture_ready = ready a.settings a.rounds a.choices.now (triple a.c1.now a.c2.now a.c3.now) a.counters.now c.places.ensures c.counters_refusal-first.ensures c.search_refusal-refused.ensures c.if-refused-ne0.false (sym c.is_picture.ensures ∙ c.if-not-is_picture.false) c.clear_counters.ensures;
-      choices_len = eqb→eq _ _ (past a.settings a.rounds a.choices.now (triple a.c1.now a.c2.now a.c3.now) a.counters.now c.places.ensures c.counters_refusal-first.ensures c.search_refusal-refused.ensures c.if-refused-ne0.false).settings.choices_fit_lem;
+      choices_len = eqb→eq _ _ (past a.settings a.rounds a.choices.now (triple a.c1.now a.c2.now a.c3.now) a.counters.now c.places.ensures c.counters_refusal-first.ensures c.search_refusal-refused.ensures c.if-refused-ne0.false).settings.choices_fit;
     }
 
 pub returns : goal.returns

@@ -1,4 +1,4 @@
--- `all_fit` is `all_within`. The invariant: the whole test is that of the bits so far and the test of the rest.
+-- The test of all bits is the test of each number. The invariant: the whole test is that of the bits so far and the test of the rest.
 use borrow.Author.Rules.{rules}
 use mathlib.Core.Path.{sym, ◌∙◌}
 use native.Mathlib.Omega.{arith}

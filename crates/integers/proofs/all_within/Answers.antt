@@ -1,4 +1,4 @@
--- `all_within` is `all_within`. The invariant: the whole test is what was found so far and the test of the rest.
+-- The invariant: the whole test is what was found so far and the test of the rest.
 use borrow.Author.Rules.{rules}
 use mathlib.Core.Path.{◌≡◌, sym, ◌∙◌}
 use native.Mathlib.Omega.{arith}

@@ -16,7 +16,7 @@ use Rattle.estimate.proofs.residual.prediction.Goals as goal
 below : (i w : ℕ) {top : Bool} → top ≡ ltb i w → top ≡ false → w ≤ i
 below i w e f = ltb-false i w (sym e ∙ f)
 
--- and beyond the first column the one above_left is
+-- and beyond the first column the one above-left is
 above_left : (i w : ℕ) → w ≤ i → eqb (i % w) 0 ≡ false → w < i
 above_left i w h e = ⊎_elim (λ (p : w ≡ i). absurd (eqb-false (i % w) 0 e (ap (λ (n : ℕ). n % w) (sym p) ∙ mod_self w))) (λ p. p) (eq-or-lt_of_le h)
 

@@ -1,7 +1,7 @@
 use Rattle.std.proofs.Common.{◌+◌, ◌-◌, ℤ, ◌+ℤ◌, ap, ap₂, arith, rules}
 use Rattle.integers.specs.Parts.{In}
 use Rattle.integers.specs.Lists.{at}
-use Rattle.integers.proofs.Ranges.{in_add, in-sums}
+use Rattle.integers.proofs.Ranges.{in_add, in_sums}
 use Rattle.kernel.specs.Window.{ValueIn, neighbour_sum}
 use Rattle.kernel.proofs.window.neighbour_sum.Goals as goal
 use Rattle.kernel.proofs.window.neighbour_sum.Goals.{After-three_sum, After-three_sum-2}
@@ -23,16 +23,16 @@ known c =
     record { above = above; left = left; right = right; one = in_add above left; two = in_add (in_add above left) right }
 
 pub overflow_add-result : goal.overflow_add-result
-overflow_add-result c = let k = known c.before in search (rules, in-sums)
+overflow_add-result c = let k = known c.before in search (rules, in_sums)
 
 pub overflow_add-result-3 : goal.overflow_add-result-3
-overflow_add-result-3 c = let k = known c.before.before in search (rules, in-sums)
+overflow_add-result-3 c = let k = known c.before.before in search (rules, in_sums)
 
 pub three_sum-requires-2 : goal.three_sum-requires-2
 three_sum-requires-2 c = record { inside = omega arith; samples = search rules }
 
 pub overflow_add-result-4 : goal.overflow_add-result-4
-overflow_add-result-4 c = let k = known c.before.before.before in let u = c.three_sum-2.ensures.range in search (rules, in-sums)
+overflow_add-result-4 c = let k = known c.before.before.before in let u = c.three_sum-2.ensures.range in search (rules, in_sums)
 
 -- all eight
 sum : (c : After-three_sum-2) →
@@ -50,4 +50,4 @@ sum c =
     }
 
 pub returns : goal.returns
-returns c = let k = known c.before.before.before in let u = c.three_sum-2.ensures.range in let v = sum c in search (rules, in-sums)
+returns c = let k = known c.before.before.before in let u = c.three_sum-2.ensures.range in let v = sum c in search (rules, in_sums)

@@ -1,7 +1,7 @@
 use Rattle.std.proofs.Common.{◌+◌, ◌-◌, ◌+ℤ◌, rules}
 use Rattle.integers.specs.Parts.{In}
 use Rattle.integers.specs.Lists.{at}
-use Rattle.integers.proofs.Ranges.{in_add, in-sums}
+use Rattle.integers.proofs.Ranges.{in_add, in_sums}
 use Rattle.kernel.specs.Window.{three_sum}
 use Rattle.kernel.proofs.window.three_sum.Goals as goal
 use Rattle.kernel.proofs.window.three_sum.Goals.{Start}
@@ -22,10 +22,10 @@ known s =
     record { left = left; own = own; right = right; two = in_add left own; three = in_add (in_add left own) right }
 
 pub overflow_add-result : goal.overflow_add-result
-overflow_add-result c = let k = known c.before.before in search (rules, in-sums)
+overflow_add-result c = let k = known c.before.before in search (rules, in_sums)
 
 pub overflow_add-result-3 : goal.overflow_add-result-3
-overflow_add-result-3 c = let k = known c.before.before.before in search (rules, in-sums)
+overflow_add-result-3 c = let k = known c.before.before.before in search (rules, in_sums)
 
 pub returns : goal.returns
-returns c = let k = known c.before.before.before in search (rules, in-sums)
+returns c = let k = known c.before.before.before in search (rules, in_sums)
