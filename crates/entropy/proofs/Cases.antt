@@ -15,19 +15,19 @@ entropy_cases = record {
   plane = record {
     from = record { high = ltb→lt _ _ tt; low = ltb→lt _ _ tt };
     to = record { high = ltb→lt _ _ tt; low = ltb→lt _ _ tt };
-    not-less = λ x. le→leb _ _ x.low;
+    not_less = λ x. le→leb _ _ x.low;
     not_more = λ x. le→leb _ _ x.high;
   };
   even = record {
     from = record { high = ltb→lt _ _ tt; low = ltb→lt _ _ tt };
     to = record { high = ltb→lt _ _ tt; low = ltb→lt _ _ tt };
-    not-less = λ x. le→leb _ _ x.low;
+    not_less = λ x. le→leb _ _ x.low;
     not_more = λ x. le→leb _ _ x.high;
   };
   planes = record {
     from = record { high = ltb→lt _ _ tt; low = ltb→lt _ _ tt };
     to = record { high = ltb→lt _ _ tt; low = ltb→lt _ _ tt };
-    not-less = λ x. le→leb _ _ x.low;
+    not_less = λ x. le→leb _ _ x.low;
     not_more = λ x. le→leb _ _ x.high;
   };
 }

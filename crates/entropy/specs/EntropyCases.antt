@@ -7,7 +7,7 @@ use Rattle.entropy.specs.Entropy.{product, NearEntropy}
 pub record NearFromTo (m n p least greatest : ℕ) : Type 0 where
   pub from : NearEntropy m n p least
   pub to : NearEntropy m n p greatest
-  pub not-less : NearEntropy m n p (least - 1) → ⊥
+  pub not_less : NearEntropy m n p (least - 1) → ⊥
   pub not_more : NearEntropy m n p (greatest + 1) → ⊥
 
 pub record EntropyCases : Type 0 where

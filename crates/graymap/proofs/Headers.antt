@@ -27,7 +27,7 @@ field_back b n rest w d =
     let r = numerals_read n rest d in
     let f : is_digit (first l) ≡ true = sym (count_some l) ∙ ap not (ne_eqb (digit_count l) 0 (λ e. omega (arith, r.count_is, some_digit n))) in
     let s : after_stretch false (b ∷ l) ≡ l = white_step b l w ∙ stretch_read l f none in
-    rw (s, w, f, r.value-is, r.rest-is)
+    rw (s, w, f, r.value_is, r.rest_is)
 
 line_feed : is_white 10 ≡ true
 unfolding is_white

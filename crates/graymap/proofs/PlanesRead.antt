@@ -61,12 +61,12 @@ module _ (r : Range) {file : List ℕ} (lent : List ℤ) {p : Parsed} (s : Parse
         let b = ne_eqb (length lent) (T.width * T.height) (λ e. g (e ∙ same_area)) in
         sym (outcome_refused size (raster_plane r T.rest) lent (tests ++ last) 8 (sym (past ∙ rw b)) (λ f. omega arith))
 
-    module _ (e : length lent ≡ p.width * p.height) {rest : List ℕ} (rest-is : rest ≡ drop 1 (drop p.at file)) where
+    module _ (e : length lent ≡ p.width * p.height) {rest : List ℕ} (rest_is : rest ≡ drop 1 (drop p.at file)) where
       long : eqb (length lent) (T.width * T.height) ≡ true
       long = eq-eqb (length lent) (T.width * T.height) (e ∙ sym same_area)
 
       samples_are : raster_samples (extent r) rest ≡ raster_samples (extent r) T.rest
-      samples_are = ap (raster_samples (extent r)) (rest-is ∙ s.rest-is)
+      samples_are = ap (raster_samples (extent r)) (rest_is ∙ s.rest_is)
 
       -- as many samples as the plane has
       pub samples_count : length (raster_samples (extent r) rest) ≡ length lent
@@ -74,7 +74,7 @@ module _ (r : Range) {file : List ℕ} (lent : List ℤ) {p : Parsed} (s : Parse
           let passes = sym s.refusal_is ∙ z in
           let m = eqb-true T.maxval (extent r) (is_taken (Graymap (extent r)) T passes) in
           let l : length T.rest ≡ sample_bytes T.maxval * (T.width * T.height) = is_long (Graymap (extent r)) T passes ∙ omega arith in
-          samples_long (extent r) (length lent) rest (ap length (rest-is ∙ s.rest-is) ∙ l ∙ ap₂ (λ (x y : ℕ). sample_bytes x * y) m (same_area ∙ sym e))
+          samples_long (extent r) (length lent) rest (ap length (rest_is ∙ s.rest_is) ∙ l ∙ ap₂ (λ (x y : ℕ). sample_bytes x * y) m (same_area ∙ sym e))
 
       pub sample_refused : extent r < highest (raster_samples (extent r) rest) → record { reply = refused 12; memory = lent } ≡ read_file r file lent
       sample_refused g =

@@ -26,7 +26,7 @@ use Rattle.graymap.specs.Parts.{with_file}
 use Rattle.graymap.specs.RoundTrips.{Rewritten, RastersKept, FilesMeasured}
 use Rattle.graymap.proofs.Lengths.{header_long, graymap_long}
 use Rattle.graymap.proofs.Headers.{header_back}
-use Rattle.graymap.proofs.ThereAndBack.{samples_kept, all_hold, value-is, memory_is}
+use Rattle.graymap.proofs.ThereAndBack.{samples_kept, all_hold, value_is, memory_is}
 
 -- ---- a raster's bytes are the file's
 abbrev Bytes : List ℕ → Type 0
@@ -67,7 +67,7 @@ module _ (d : Depths) (t n : ℕ) (file buffer : List ℕ) (lent a : List ℤ) (
 
   size_is : size ≡ v
   unfolding graymap_read
-  size_is = value-is size (raster_plane r text.rest) lent tests numbered v a e
+  size_is = value_is size (raster_plane r text.rest) lent tests numbered v a e
 
   plane_is : raster_plane r text.rest ≡ a
   unfolding graymap_read

@@ -23,7 +23,7 @@ use Rattle.raster.proofs.Pairs.{raster_long, samples_back}
 use Rattle.graymap.specs.Parts.{with_file}
 use Rattle.graymap.specs.RoundTrips.{WrittenRestored}
 use Rattle.graymap.proofs.Headers.{header_back}
-use Rattle.graymap.proofs.ThereAndBack.{numbers_back, front, all_hold, value-is, memory_is}
+use Rattle.graymap.proofs.ThereAndBack.{numbers_back, front, all_hold, value_is, memory_is}
 
 module _ (s : Settings) (n : ℕ) (a lent : List ℤ) (buffer after : List ℕ) (count : ℕ)
     (e : graymap_written s n a buffer ≡ record { reply = done count; memory = after }) (same_length : length lent ≡ pixels s) where
@@ -44,7 +44,7 @@ module _ (s : Settings) (n : ℕ) (a lent : List ℤ) (buffer after : List ℕ) 
   unfolding graymap_written
   file_is =
       let k : Numbered tests = (tt, (tt, (tt, (tt, (tt, (tt, (tt, tt))))))) in
-      rw (← (value-is (length f) (with_file f buffer) buffer tests k count after e), ← (memory_is (length f) (with_file f buffer) buffer tests k count after e)) (front f (drop (length f) buffer))
+      rw (← (value_is (length f) (with_file f buffer) buffer tests k count after e), ← (memory_is (length f) (with_file f buffer) buffer tests k count after e)) (front f (drop (length f) buffer))
 
   abbrev raster : List ℕ
   raster = samples_raster (extent r) (map (less_lowest r) a)

@@ -51,8 +51,8 @@ module _ {A M : Type 0} (v : A) (result before : M) (tests : List Test) (k : Num
   same : ◌≡◌ {A = Outcome A M} (record { reply = done v; memory = result }) (record { reply = done u; memory = after })
   same = sym (outcome_done v result before tests passed) ∙ e
 
-  pub value-is : v ≡ u
-  value-is = let d : done v ≡ done u = ap (λ (o : Outcome A M). o.reply) same in cc
+  pub value_is : v ≡ u
+  value_is = let d : done v ≡ done u = ap (λ (o : Outcome A M). o.reply) same in cc
 
   pub memory_is : result ≡ after
   memory_is = ap (λ (o : Outcome A M). o.memory) same

@@ -13,7 +13,7 @@ use Rattle.stage.specs.Planes.{Planes}
 use Rattle.stage.specs.Steps.{steps, places}
 use Rattle.stage.specs.Transform.{choice_count, choice_at}
 use Rattle.stage.proofs.Answers.{between_iff}
-use Rattle.stage.proofs.Choices.{set-within}
+use Rattle.stage.proofs.Choices.{set_within}
 use Rattle.lifting.specs.BandRows.{band_rows, rows_before, BandReady}
 
 -- band b begins within the picture
@@ -32,7 +32,7 @@ rows_some (Of n) s b f l = ((between_iff 1 s.height n).0 f).0
 pub band_set : (β : Bands) (s : Settings) (b k : ℕ) → T (bands_suit β s.height) → Begins β s b → k < places (steps s.transform)
     → places (steps s.transform) * b + k < choice_count β s
 band_set One s b k f l h = rw (only b s.height l) (omega (arith, h))
-band_set (Of n) s b k f l h = set-within n s b k ((between_iff 1 s.height n).0 f).0 l h
+band_set (Of n) s b k f l h = set_within n s b k ((between_iff 1 s.height n).0 f).0 l h
 
 -- at each index of its rows the choice of place k is one of its set
 pub band_choice : (β : Bands) (s : Settings) (b k i : ℕ) → T (bands_suit β s.height) → Begins β s b

@@ -71,7 +71,7 @@ pub record Turn (κ : Form) (d w h f g : ℕ) (back : Bool) (a b c₀ c : List �
 pub record Turns (κ : Form) (d w h f g : ℕ) (back : Bool) (a b c₀ : List ℤ) (first second : KeptPass) : Type 0 where
   pub unskipped : (eqb f 12 && eqb g 12) ≡ false
   pub depth : d ≤ 16
-  pub first-is : first ≡ kept_pass (cond back 6 5) Plain d
+  pub first_is : first ≡ kept_pass (cond back 6 5) Plain d
   pub second_is : second ≡ kept_pass (cond back 8 7) κ d
   pub first_range : AllIn 524288 524288 a
   pub second_range : AllIn 524288 524288 b
@@ -88,13 +88,13 @@ turn {κ} {d} {w} {h} {f} {g} {back} {a} {b} {c₀} {c} {first} {second} {i} {j}
     changed_in u (all_wider t.own_range (lit≤ tt) (lit≤ tt))
     (λ k _ _. subst (In 4194304 4194304) (sym (one k _)) (kept_in κ d _ t.depth (quarter_in back _ _ _ (t.own_range.each k) (f_in k) (g_in k)))) in
     record {
-      first_allowed = rw t.first-is (record { number = number_most back (lit≤ tt) (lit≤ tt); depth = t.depth });
+      first_allowed = rw t.first_is (record { number = number_most back (lit≤ tt) (lit≤ tt); depth = t.depth });
       second_allowed = rw t.second_is (record { number = number_most back (lit≤ tt) (lit≤ tt); depth = t.depth });
       range = c_in;
-      range_between = λ v. changed_in v c_in (λ k r _. rw (t.first-is, u.high k r) (fourfold_in back _ _ (t.own_range.each k) (f_in k)));
+      range_between = λ v. changed_in v c_in (λ k r _. rw (t.first_is, u.high k r) (fourfold_in back _ _ (t.own_range.each k) (f_in k)));
       made = λ v x. changed_join u
           (changed_as j m (changed_twice v x) refl refl
-          (λ k z _ _. ap₂ (λ (n o : KeptPass). applied o (applied n z (filtered w h f a k)) (filtered w h g b k)) t.first-is t.second_is
+          (λ k z _ _. ap₂ (λ (n o : KeptPass). applied o (applied n z (filtered w h f a k)) (filtered w h g b k)) t.first_is t.second_is
           ∙ ap (kept κ d) (two_passes back z _ _)
           ∙ sym (one k z)))
           o l;

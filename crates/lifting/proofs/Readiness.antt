@@ -21,7 +21,7 @@ use Rattle.stage.specs.Ranges.{ranges, sample_ranges, finished_ranges, bounded, 
 use Rattle.stage.specs.Transform.{HasSize, Picture, setup}
 use Rattle.stage.proofs.Reversal.{run_length, undo_length}
 use Rattle.stage.proofs.StepLists.{ranges_append, run_back, undo_part}
-use Rattle.stage.proofs.StepRanges.{keeps_wider, ranges_grow, run_in, take-inside, in_inside}
+use Rattle.stage.proofs.StepRanges.{keeps_wider, ranges_grow, run_in, take_inside, in_inside}
 use Rattle.stage.proofs.Forms.{forms_keep_ranges}
 use Rattle.stage.proofs.Numbers.{finished_within, bounded_in, met_back}
 use Rattle.lifting.specs.Steps.{Ready, StepsFit, RunReady, UndoReady, AtStep}
@@ -47,7 +47,7 @@ at_next κ β {s} {i} {q} d z j φ p h e =
 module _ {s : Settings} (deep : (c : Plane) → depth_at s c ≤ 16) where
   -- within the ranges of finished planes, which hold those on the way
   pub at_finished : {k : ℕ} {q : Planes} → AtStep s k q → InRanges (finished_ranges s) q
-  at_finished {k} {q} z = in_inside _ (finished_ranges s) (take-inside (steps s.transform) k (sample_ranges s)) q z.inside
+  at_finished {k} {q} z = in_inside _ (finished_ranges s) (take_inside (steps s.transform) k (sample_ranges s)) q z.inside
 
   pub at_ready : {k : ℕ} {q : Planes} → AtStep s k q → Ready s q
   at_ready {k} {q} z = record { size = z.size; small = bounded_in q (in_inside (finished_ranges s) bounded (finished_within s deep) q (at_finished z)) }

@@ -80,7 +80,7 @@ read_is C3 C3 h p = absurd h
 pub record PassOf (κ : Form) (s : Settings) (k : ℕ) (back : Bool) (x : Pass) (n : KeptPass) (b : Bool) (c : Plane) : Type 0 where
   pub pass_is : x ≡ pass_at s.transform k
   pub number_is : n ≡ kept_pass (number back x) κ s.depths.c1
-  pub first-is : b ≡ same_plane x.read (first_other x.changed)
+  pub first_is : b ≡ same_plane x.read (first_other x.changed)
   pub changed_is : x.changed ≡ c
 
 module _ {κ : Form} {s : Settings} {k f from to : ℕ} {p : Planes} {back : Bool} {x : Pass} {n : KeptPass} {b : Bool} {c : Plane} (r : PassReady s k f from to p) (o : PassOf κ s k back x n b c) where
@@ -101,7 +101,7 @@ module _ {κ : Form} {s : Settings} {k f from to : ℕ} {p : Planes} {back : Boo
   read_same =
       let apart = subst (λ (d : Plane). T (not (same_plane X.read d))) changed_same (pass_fits_lem s.transform k r.place).apart in
       ap (λ (y : Bool). cond y (get p (first_other c)) (get p (second_other c)))
-      (o.first-is ∙ ap₂ (λ (y z : Plane). same_plane y (first_other z)) (ap (λ (y : Pass). y.read) o.pass_is) o.changed_is) ∙ read_is c X.read apart p
+      (o.first_is ∙ ap₂ (λ (y z : Plane). same_plane y (first_other z)) (ap (λ (y : Pass). y.read) o.pass_is) o.changed_is) ∙ read_is c X.read apart p
 
   pub pass_liftable : Liftable s.width s.height f n from to a (get p c)
   pass_liftable = record {

@@ -25,8 +25,8 @@ module _ (σ : Setup) (a : Corner) (u v : ℕ) where
   cut_index_lem : (x y : ℕ) → x < u → cut_index σ a u v (y * u + x) ≡ index σ a x y
   cut_index_lem x y l = rw (digits_div y l, digits_mod y l)
 
-  cut-length : (p : Planes) (c : Plane) → length (get (cut_out σ a u v p) c) ≡ u * v
-  cut-length p c =
+  cut_length : (p : Planes) (c : Plane) → length (get (cut_out σ a u v p) c) ≡ u * v
+  cut_length p c =
       ap length (get-map (cut_plane σ a u v) p c)
       ∙ length-map_indexed (λ i z. at (get p c) (cut_index σ a u v i)) 0 (replicate (u * v) (pos 0)) ∙ length-replicate (u * v) (pos 0)
 
@@ -52,7 +52,7 @@ cut_out_same way ρ σ radii a u v f l p m c x y h =
       skips = refl;
       keep = λ z. refl;
     })
-    l none (cut_out σ a u v p) p (cut-length σ a u v p) m
+    l none (cut_out σ a u v p) p (cut_length σ a u v p) m
     (λ c x y _ h. ap (at (get (cut_out σ a u v p) c)) (e x y) ∙ cut_at σ a u v p c x y h.column.here h.row.here)
     c x y (record { column = omega arith; row = omega arith }) h)
 

@@ -48,11 +48,11 @@ module _ {file : List ℕ} {r : Parsed} (s : ParsedOf Pixmap file r) (lent : Pla
     -- the samples that stand behind the header
     pub samples_three : (rest : List ℕ) → rest ≡ drop 1 (drop r.at file) → length (raster_samples r.maxval rest) ≡ 3 * (r.width * r.height)
     samples_three rest e =
-        let long = ap length (e ∙ s.rest-is) ∙ is_long Pixmap T (passes s h) in
+        let long = ap length (e ∙ s.rest_is) ∙ is_long Pixmap T (passes s h) in
         pixel_samples_lem r.maxval r.width r.height rest (rw (s.width_is h, s.height_is h, s.maxval_is h) long)
 
     samples_are : (rest : List ℕ) → rest ≡ drop 1 (drop r.at file) → raster_samples r.maxval rest ≡ raster_samples (2 ^ depth_of T.maxval - 1) T.rest
-    samples_are rest e = rw ((depth_maxval T.maxval (has_depth T.maxval (is_taken Pixmap T (passes s h)))).0, s.maxval_is h, e, s.rest-is)
+    samples_are rest e = rw ((depth_maxval T.maxval (has_depth T.maxval (is_taken Pixmap T (passes s h)))).0, s.maxval_is h, e, s.rest_is)
 
     -- the lengths as they were tested
     lengths_by : {b : Bool} → all_equal (r.width * r.height) (lengths lent) ≡ b → all_equal (T.width * T.height) (lengths lent) ≡ b

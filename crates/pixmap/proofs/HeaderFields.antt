@@ -48,8 +48,8 @@ unfolding after_stretch
 stretch_nil c = refl
 
 module _ (file : List ℕ) (c : Bool) (i : ℕ) where
-  pub ends-here : i < length file → ends_stretch c (get_or file i 0) ≡ true → drop i file ≡ after_stretch c (drop i file)
-  ends-here h t = rw (at_place file i h) (stretch_ends c (get_or file i 0) (drop (i + 1) file) t)
+  pub ends_here : i < length file → ends_stretch c (get_or file i 0) ≡ true → drop i file ≡ after_stretch c (drop i file)
+  ends_here h t = rw (at_place file i h) (stretch_ends c (get_or file i 0) (drop (i + 1) file) t)
 
   pub goes_here : i < length file → ends_stretch c (get_or file i 0) ≡ false → after_stretch (stays_inside c (get_or file i 0)) (drop (i + 1) file) ≡ after_stretch c (drop i file)
   goes_here h t = stretch_goes c (get_or file i 0) (drop (i + 1) file) t ∙ ap (after_stretch c) (sym (at_place file i h))
@@ -67,10 +67,10 @@ module _ (file : List ℕ) (at s b : ℕ) (p : Bool) (n : Number) where
       let c = ap (λ k. not (eqb k 0)) hn.digits_is in
       let e = rest_read hn in
       let a = all_digits file s in
-      record { formed_is = cc; value-is = cc; rest-is = cc }
+      record { formed_is = cc; value_is = cc; rest_is = cc }
 
 module _ (file : List ℕ) (letter x y z : ℕ) (w h m : Field) (t : Bool) where
   pub fields_read : FieldAt file 2 w → FieldAt file w.at h → FieldAt file h.at m → x ≡ first file → y ≡ first (drop 1 file) → z ≡ first (drop m.at file) → t ≡ is_white z
       → FieldsOf letter file (record { formed = eqb x 80 && eqb y letter && w.formed && h.formed && m.formed && t; width = w.value; height = h.value; maxval = m.value; at = m.at })
   unfolding header_text
-  fields_read hw hh hm hx hy hz ht = record { formed_is = cc; width_is = cc; height_is = cc; maxval_is = cc; rest-is = cc }
+  fields_read hw hh hm hx hy hz ht = record { formed_is = cc; width_is = cc; height_is = cc; maxval_is = cc; rest_is = cc }

@@ -53,9 +53,9 @@ field_front : (l rest : List ℕ) (v : ℕ) → IsField l v rest → is_digit (f
 field_front l rest v f = ap (λ (x : List ℕ). is_digit (first x)) f.parts ∙ white_no_digit f.space f.is_white
 
 -- ---- the header
-first-of : (l : List ℕ) → is_white (first l) ≡ true → l ≡ first l ∷ drop 1 l
-first-of [] h = absurd (nothing_white h)
-first-of (b ∷ l) h = refl
+first_of : (l : List ℕ) → is_white (first l) ≡ true → l ≡ first l ∷ drop 1 l
+first_of [] h = absurd (nothing_white h)
+first_of (b ∷ l) h = refl
 
 record Conditions (p q w h m s : Bool) : Type 0 where
   is_p : p ≡ true
@@ -101,7 +101,7 @@ header_sound letter file e =
       letters = letters_of letter file c.is_p c.is_letter (field_white (drop 2 file) c.width);
       is_width = field_sound (drop 2 file) c.width;
       is_height = field_sound w.rest c.height;
-      is_maxval = subst (λ (r : List ℕ). IsField h.rest m.value r) (first-of m.rest c.space) (field_sound h.rest c.maxval);
+      is_maxval = subst (λ (r : List ℕ). IsField h.rest m.value r) (first_of m.rest c.space) (field_sound h.rest c.maxval);
       is_white = c.space;
     }
 

@@ -28,7 +28,7 @@ module _ (k : Kind) (file rest : List ℕ) (t : Fields) (taken : Bool) (pixel n 
   parsed_read readable a g p r h =
       let g_is : taken ≡ takes k T.maxval = g ∙ ap (takes k) a.maxval_is ∙ takes_kept k T.maxval readable in
       let p_is : pixel ≡ pixel_samples k * sample_bytes T.maxval = p ∙ ap (λ (m : ℕ). pixel_samples k * sample_bytes m) a.maxval_is ∙ ap (λ (m : ℕ). pixel_samples k * m) (bytes_kept T.maxval) in
-      let l_is : rest ≡ T.rest = r ∙ a.rest-is in
+      let l_is : rest ≡ T.rest = r ∙ a.rest_is in
       let n_is : n ≡ refusal (file_tests k T) =
       h ∙ rw (a.formed_is, a.width_is, a.height_is, g_is, p_is, l_is) (refusal_kept T.formed (takes k T.maxval) (pixel_samples k * sample_bytes T.maxval) (length T.rest) T.width T.height) in
       record {
@@ -36,7 +36,7 @@ module _ (k : Kind) (file rest : List ℕ) (t : Fields) (taken : Bool) (pixel n 
         width_is = λ z. a.width_is ∙ (sized_kept T.width T.height (is_sized k T (sym n_is ∙ z))).0;
         height_is = λ z. a.height_is ∙ (sized_kept T.width T.height (is_sized k T (sym n_is ∙ z))).1;
         maxval_is = λ z. omega (arith, a.maxval_is, taken_most k T.maxval readable (is_taken k T (sym n_is ∙ z)));
-        rest-is = a.rest-is;
+        rest_is = a.rest_is;
       }
 
 -- ---- a file that is refused, and one that is not
@@ -68,4 +68,4 @@ module _ {file : List ℕ} {r : Parsed} (s : ParsedOf Pixmap file r) where
 
   pub raster_read : r.refusal ≡ 0 → drop 1 (drop r.at file) ≡ raster_of file
   unfolding raster_of
-  raster_read h = s.rest-is ∙ ap raster_by (parsed_done s h)
+  raster_read h = s.rest_is ∙ ap raster_by (parsed_done s h)

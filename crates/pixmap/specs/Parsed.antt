@@ -17,4 +17,4 @@ pub record ParsedOf (k : Kind) (file : List ℕ) (r : Parsed) : Type 0 where
   pub width_is : r.refusal ≡ 0 → r.width ≡ (header_text (letter k) file).width
   pub height_is : r.refusal ≡ 0 → r.height ≡ (header_text (letter k) file).height
   pub maxval_is : r.refusal ≡ 0 → r.maxval ≡ (header_text (letter k) file).maxval
-  pub rest-is : drop 1 (drop r.at file) ≡ (header_text (letter k) file).rest
+  pub rest_is : drop 1 (drop r.at file) ≡ (header_text (letter k) file).rest

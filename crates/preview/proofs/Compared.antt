@@ -11,7 +11,7 @@ use lib.Ieee.{Float, nan, inf, fin, up, down, eq}
 use lib.Ieee.Fits.{down_pos, and_i, and_l, and_r, eq→eqb}
 use Rattle.preview.specs.Quarters.{just, signed, four_times}
 use Rattle.preview.specs.Theorems.{ComparedAsNumbers}
-use Rattle.preview.proofs.Exact.{Finite, cancel, signed-size, known, four}
+use Rattle.preview.proofs.Exact.{Finite, cancel, signed_size, known, four}
 use Rattle.preview.proofs.Cuts.{none_below}
 
 -- two fractions of the same number of quarters are the same
@@ -19,7 +19,7 @@ same_fraction : (a d b e n : ℕ) → 4 * a ≡ n * d → 4 * b ≡ n * e → a 
 same_fraction a d b e n h j = omega (arith, ap (λ (z : ℕ). z * e) h, ap (λ (z : ℕ). z * d) j)
 
 same_size : (s t : Bool) (n j : ℕ) {z : ℤ} → signed s n ≡ z → signed t j ≡ z → n ≡ j
-same_size s t n j h g = sym (signed-size s n) ∙ ap nat_abs (h ∙ sym g) ∙ signed-size t j
+same_size s t n j h g = sym (signed_size s n) ∙ ap nat_abs (h ∙ sym g) ∙ signed_size t j
 
 -- only 0 may have either sign
 nought : (n a d e : ℕ) → 4 * a ≡ n * d → n ≡ 0 → a * e ≡ 0

@@ -78,9 +78,9 @@ made k (fin s m e) z h =
 pub known : {k : ℕ} {x : Float} {z : ℤ} → Four k x z → four_times x ≡ just z
 known {k} {x} {z} h = made k x z h.exact
 
-pub signed-size : (s : Bool) (n : ℕ) → nat_abs (signed s n) ≡ n
-signed-size false n = refl
-signed-size true n = rw (nat_abs_parts (neg_ℤ (pos n)), pos_part_neg, neg_part_neg) (omega arith)
+pub signed_size : (s : Bool) (n : ℕ) → nat_abs (signed s n) ≡ n
+signed_size false n = refl
+signed_size true n = rw (nat_abs_parts (neg_ℤ (pos n)), pos_part_neg, neg_part_neg) (omega arith)
 
 chosen : {A : Type 0} (q : Bool) (a b : A) → cond q (just a) nothing ≡ just b → T q × (a ≡ b)
 chosen true a b h = (tt, cc)
@@ -97,7 +97,7 @@ read k (fin s m e) z l h =
     let r = eqb→eq (a % down e) 0 c.0 in
     record {
       size = n;
-      small = omega (arith, l, sym (signed-size s n) ∙ ap nat_abs c.1);
+      small = omega (arith, l, sym (signed_size s n) ∙ ap nat_abs c.1);
       is = omega (arith, r, div-add-mod' a (down e));
       number = c.1;
     }

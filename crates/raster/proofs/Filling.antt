@@ -12,8 +12,8 @@ use Rattle.raster.specs.Samples.{Fills, Filled}
 abbrev pub sample_at : (samples : List ℕ) (step offset below : ℕ) → ℕ → ℤ → ℤ
 sample_at samples step offset below k z = pos (get_or samples (step * k + offset) 0) -ℤ pos below
 
-pub place-within : {samples : List ℕ} {step offset below : ℕ} {plane : List ℤ} (k : ℕ) → Fills samples step offset below plane → k < length plane → step * k + offset < length samples
-place-within {samples} {step} {offset} {below} {plane} k f h =
+pub place_within : {samples : List ℕ} {step offset below : ℕ} {plane : List ℤ} (k : ℕ) → Fills samples step offset below plane → k < length plane → step * k + offset < length samples
+place_within {samples} {step} {offset} {below} {plane} k f h =
     let m : step * (k + 1) ≤ step * length plane = mul-le-mul {n₁ = step} {m₁ = k + 1} {n₂ = step} {m₂ = length plane} (le_refl step) (omega arith) in
     omega (arith, f.enough, f.within)
 

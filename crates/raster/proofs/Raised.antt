@@ -40,15 +40,15 @@ module _ {r : Range} {l : List ℤ} {most : ℕ} {text : List ℕ} {start : ℕ}
   sample_raisable = rw stored (record { within = sample_within; narrow = omega (arith, w.narrow) })
 
   module _ {n : ℕ} (e : n ≡ less_lowest r (to_z w32 (of_z w32 (at l i)))) where
-    pub value-is : n ≡ less_lowest r (at l i)
-    value-is = e ∙ ap (less_lowest r) stored
+    pub value_is : n ≡ less_lowest r (at l i)
+    value_is = e ∙ ap (less_lowest r) stored
 
     pub value_most : n ≤ most
-    value_most = omega (arith, value-is, raised_in r (at l i) sample_within, w.narrow)
+    value_most = omega (arith, value_is, raised_in r (at l i) sample_within, w.narrow)
 
     -- what is left to write is this one and the rest
     pub next_raised : i < length l → map (less_lowest r) (drop i l) ≡ n ∷ map (less_lowest r) (drop (i + 1) l)
-    next_raised g = rw (add-one i, drop-cons l i (pos 0) g, value-is)
+    next_raised g = rw (add-one i, drop-cons l i (pos 0) g, value_is)
 
 pub none_raised : (r : Range) (l : List ℤ) (i : ℕ) → length l ≤ i → map (less_lowest r) (drop i l) ≡ []
 none_raised r l i h = ap (map (less_lowest r)) (drop_of_length-le l h)

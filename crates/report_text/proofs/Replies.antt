@@ -26,9 +26,9 @@ use Rattle.report_text.specs.Promises.{report_room, LinesRoom}
 use Rattle.report_text.specs.Found.{found, found_estimate, FoundBy, first_of}
 
 -- ---- a refusal's number is not 0
-not-zero : {A : Type 0} (n m : ℕ) (v : A) (b : Bool) → eqb m 0 ≡ b → refused n ≡ cond b (done v) (refused m) → eqb n 0 ≡ false
-not-zero n m v true e h = let z : ◌≡◌ {A = ℕ} 0 1 = cc in absurd (omega arith)
-not-zero n m v false e h = let s : n ≡ m = cc in rw s e
+not_zero : {A : Type 0} (n m : ℕ) (v : A) (b : Bool) → eqb m 0 ≡ b → refused n ≡ cond b (done v) (refused m) → eqb n 0 ≡ false
+not_zero n m v true e h = let z : ◌≡◌ {A = ℕ} 0 1 = cc in absurd (omega arith)
+not_zero n m v false e h = let s : n ≡ m = cc in rw s e
 
 search_refused : (s : Settings) (p : Planes) (k : ℕ) (m : Lent) (n : ℕ) → refused n ≡ (search_call s p k m).reply → eqb n 0 ≡ false
 unfolding search_call
@@ -36,7 +36,7 @@ search_refused s p k m n e =
     let l = m.scratch in
     let fits = scratch_fits s (lengths l.trials) (length l.counters) in
     let first = refusal (search_tests s p fits k (length m.choices) ++ (is_picture s p else 11) ∷ []) in
-    not-zero n first (estimated s p (winners s p k)) (eqb first 0) refl e
+    not_zero n first (estimated s p (winners s p k)) (eqb first 0) refl e
 
 module _ (h : Header) (p : Planes) (t : ℕ) where
   abbrev call : List ℕ → Outcome Estimated Lent

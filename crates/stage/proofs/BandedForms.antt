@@ -58,9 +58,9 @@ module _ (s : Settings) where
     filters : (k i : ℕ) → i < pixels s → (setup κ (Of s.height) s φ).filter k i ≡ (setup κ One s φ).filter k i
     filters k i h = ap (λ (n : ℕ). get_or φ n 0) (one_band i w h k)
 
-    there-same : transformed κ (Of s.height) s φ p ≡ transformed κ One s φ p
+    there_same : transformed κ (Of s.height) s φ p ≡ transformed κ One s φ p
     unfolding transformed
-    there-same = run_same (setup κ (Of s.height) s φ) (setup κ One s φ) refl refl refl (λ z. refl) (pixels s) filters (steps s.transform) p size
+    there_same = run_same (setup κ (Of s.height) s φ) (setup κ One s φ) refl refl refl (λ z. refl) (pixels s) filters (steps s.transform) p size
 
     back_same : untransformed κ (Of s.height) s φ p ≡ untransformed κ One s φ p
     unfolding untransformed
@@ -82,7 +82,7 @@ bands_as_high κ s φ p =
     let agree = calls_agree {A = Unit {0}} {M = Planes} tt p l m numbered numbered (settings_same s κ φ (lengths p)) in
     record {
       there = agree (is_picture s p) (is_picture s p) 11 (transformed κ n s φ p) (transformed κ One s φ p)
-          (λ h. let f = fit h in (refl, there-same s κ φ p f.0.allowed.width_least f.1));
+          (λ h. let f = fit h in (refl, there_same s κ φ p f.0.allowed.width_least f.1));
       back = agree (reachable κ n s φ p) (reachable κ One s φ p) (unreachable κ) (untransformed κ n s φ p) (untransformed κ One s φ p)
           (λ h. let f = fit h in let e = back_same s κ φ p f.0.allowed.width_least f.1 in (reachable_same κ s φ p e, e));
     }

@@ -51,9 +51,9 @@ choices_equal β s n f h e =
     (rw (length-replicate {A = ℕ} n f, e) (eqb_refl (choice_count β s)), equal_filters n f h)
 
 -- the set of a band that begins within the picture, and the choice at an index of the picture
-pub set-within : (n : ℕ) (s : Settings) (b k : ℕ) → 1 ≤ n → b * n < s.height → k < places (steps s.transform)
+pub set_within : (n : ℕ) (s : Settings) (b k : ℕ) → 1 ≤ n → b * n < s.height → k < places (steps s.transform)
     → places (steps s.transform) * b + k < choice_count (Of n) s
-set-within n s b k some begins h =
+set_within n s b k some begins h =
     let band : suc b ≤ band_count n s.height = (le-div_iff_mul-le {k = n} {x = suc b} {y = s.height + (n - 1)} some).1 (omega arith) in
     omega (arith, mul-le-mul_left {m = suc b} {n = band_count n s.height} (places (steps s.transform)) band)
 
@@ -62,4 +62,4 @@ pub choice_within : (β : Bands) (s : Settings) → 1 ≤ s.width → T (bands_s
 choice_within One s w f k i h l = h
 choice_within (Of n) s w f k i h l =
     let row : i / s.width < s.height = (div-lt_iff_lt-mul {k = s.width} {x = i} {y = s.height} w).1 (omega (arith, mul_comm s.width s.height)) in
-    set-within n s (i / s.width / n) k ((between_iff 1 s.height n).0 f).0 (omega (arith, div-mul-le_self (i / s.width) n)) h
+    set_within n s (i / s.width / n) k ((between_iff 1 s.height n).0 f).0 (omega (arith, div-mul-le_self (i / s.width) n)) h

@@ -70,12 +70,12 @@ abbrev AllBelow : ℕ → List Step → Type 0
 AllBelow n [] = Unit {0}
 AllBelow n (x ∷ l) = Below n x.term × AllBelow n l
 
-all-below : (t : ℕ) → AllBelow (places (steps t)) (steps t)
-all-below zero = (tt, (tt, ((tt, tt), tt)))
-all-below (suc zero) = (tt, (tt, (tt, (tt, tt))))
-all-below (suc (suc zero)) = (tt, (tt, tt))
-all-below (suc (suc (suc zero))) = (tt, (tt, (tt, tt)))
-all-below (suc (suc (suc (suc t)))) = tt
+all_below : (t : ℕ) → AllBelow (places (steps t)) (steps t)
+all_below zero = (tt, (tt, ((tt, tt), tt)))
+all_below (suc zero) = (tt, (tt, (tt, (tt, tt))))
+all_below (suc (suc zero)) = (tt, (tt, tt))
+all_below (suc (suc (suc zero))) = (tt, (tt, (tt, tt)))
+all_below (suc (suc (suc (suc t)))) = tt
 
 module _ (σ : Setup) (skips : T σ.skips) (n i : ℕ) (null : (k : ℕ) → k < n → σ.filter k i ≡ 12) where
   null_term : (t : Term) → Below n t → T (all_null σ t i)
@@ -93,7 +93,7 @@ unfolding transformed untransformed
 masks_stay κ β s φ p i null c =
     let σ = setup κ β s φ in
     let l = steps s.transform in
-    let n = null_at σ tt (places l) i null l (all-below s.transform) in
+    let n = null_at σ tt (places l) i null l (all_below s.transform) in
     record { there = run_stays σ tt l p i n c; back = undo_stays σ tt l p i n c }
 
 -- ---- every filter null

@@ -12,7 +12,7 @@ use Rattle.stage.specs.Steps.{steps}
 use Rattle.stage.specs.Ranges.{Range, Inside, AllInside, ranges, undone_ranges, sample_ranges, finished_ranges, bounded, extent, widest, InRanges}
 use Rattle.stage.specs.Theorems.{MetForward, MetBack}
 use Rattle.stage.proofs.Triples.{each_plane, each_test}
-use Rattle.stage.proofs.StepRanges.{inside_trans, ranges_grow, keeps_wider, take-inside, drop-inside, undone_ranges_inside, in_inside, run_in, undo_in}
+use Rattle.stage.proofs.StepRanges.{inside_trans, ranges_grow, keeps_wider, take_inside, drop_inside, undone_ranges_inside, in_inside, run_in, undo_in}
 use Rattle.stage.proofs.DeeperPlanes.{at_depth, up_to}
 
 -- ---- ranges within a range, as a test that computes
@@ -74,14 +74,14 @@ pub met_forward : MetForward
 met_forward s σ n p d k i =
     let l = steps s.transform in
     in_inside (ranges (take n l) (sample_ranges s)) bounded
-    (inside_trans _ (finished_ranges s) _ (take-inside l n (sample_ranges s)) (finished_within s d))
+    (inside_trans _ (finished_ranges s) _ (take_inside l n (sample_ranges s)) (finished_within s d))
     _ (run_in σ (take n l) (sample_ranges s) p k i)
 
 pub met_back : MetBack
 met_back s σ n q d k i =
     let l = steps s.transform in
     in_inside (undone_ranges (drop n l) (finished_ranges s)) bounded
-    (inside_trans _ (undone_ranges l (finished_ranges s)) _ (drop-inside l n (finished_ranges s))
+    (inside_trans _ (undone_ranges l (finished_ranges s)) _ (drop_inside l n (finished_ranges s))
     (inside_trans _ (undone s.transform) _
     (undone_ranges_inside l (finished_ranges s) (finished s.transform) (up_to s 16 d).0) (at_deepest s.transform).undone_bounded))
     _ (undo_in σ (drop n l) (finished_ranges s) q (keeps_wider σ (sample_ranges s) _ (ranges_grow l (sample_ranges s)) k) i)

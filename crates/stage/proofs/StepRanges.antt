@@ -112,14 +112,14 @@ pub in_inside : (r R : Triple Range) → AllInside r R → (p : Planes) → InRa
 in_inside r R h p k c = all_wider (k c) (h c).low (h c).high
 
 -- ---- ranges on the way
-pub take-inside : (l : List Step) (k : ℕ) (r : Triple Range) → AllInside (ranges (take k l) r) (ranges l r)
-take-inside [] zero r = λ c. omega arith
-take-inside [] (suc k) r = λ c. omega arith
-take-inside (s ∷ l) zero r = ranges_grow (s ∷ l) r
-take-inside (s ∷ l) (suc k) r = take-inside l k (step_ranges s r)
+pub take_inside : (l : List Step) (k : ℕ) (r : Triple Range) → AllInside (ranges (take k l) r) (ranges l r)
+take_inside [] zero r = λ c. omega arith
+take_inside [] (suc k) r = λ c. omega arith
+take_inside (s ∷ l) zero r = ranges_grow (s ∷ l) r
+take_inside (s ∷ l) (suc k) r = take_inside l k (step_ranges s r)
 
-pub drop-inside : (l : List Step) (k : ℕ) (r : Triple Range) → AllInside (undone_ranges (drop k l) r) (undone_ranges l r)
-drop-inside [] zero r = λ c. omega arith
-drop-inside [] (suc k) r = λ c. omega arith
-drop-inside (s ∷ l) zero r = λ c. omega arith
-drop-inside (s ∷ l) (suc k) r = inside_trans _ (undone_ranges l r) _ (drop-inside l k r) (step_grows (reversed s) (undone_ranges l r))
+pub drop_inside : (l : List Step) (k : ℕ) (r : Triple Range) → AllInside (undone_ranges (drop k l) r) (undone_ranges l r)
+drop_inside [] zero r = λ c. omega arith
+drop_inside [] (suc k) r = λ c. omega arith
+drop_inside (s ∷ l) zero r = λ c. omega arith
+drop_inside (s ∷ l) (suc k) r = inside_trans _ (undone_ranges l r) _ (drop_inside l k r) (step_grows (reversed s) (undone_ranges l r))

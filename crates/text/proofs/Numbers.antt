@@ -129,7 +129,7 @@ module _ (text : List ℕ) (at most limit n digits i : ℕ) (p : Read text at mo
   number_read h =
       let l = take (most - digits) (drop i text) in
       record {
-        value-is = omega (arith, p.value, p.kept, decimal_ends n l h);
+        value_is = omega (arith, p.value, p.kept, decimal_ends n l h);
         digits_is = omega (arith, p.count, count_none l h);
         end_is = omega (arith, p.place, p.count, count_none l h);
       }

@@ -56,7 +56,7 @@ unfolding numeral
 numerals_read n rest h =
     let p = all n n rest (omega arith) in
     record {
-      value-is = p.value ∙ decimal_ends n rest h;
+      value_is = p.value ∙ decimal_ends n rest h;
       count_is = omega (arith, p.count, count_none rest h);
-      rest-is = p.rest ∙ digits_end rest h;
+      rest_is = p.rest ∙ digits_end rest h;
     }

@@ -6,7 +6,7 @@ use Rattle.text.specs.declared.reading.Number.{Number}
 -- The number that the first digits at a place are, at most `most` of them, kept to a limit; how many these are; and the place behind
 -- them.
 pub record NumberAt (text : List ℕ) (at most limit : ℕ) (r : Number) : Type 0 where
-  pub value-is : r.value ≡ min (decimal 0 (take most (drop at text))) limit
+  pub value_is : r.value ≡ min (decimal 0 (take most (drop at text))) limit
   pub digits_is : r.digits ≡ digit_count (take most (drop at text))
   pub end_is : r.at ≡ at + digit_count (take most (drop at text))
 

@@ -16,10 +16,10 @@ use Rattle.lifting.proofs.rows.lift_plane.Goals as goal
 -- the pass's numbers, where it changes plane c; d is the first other plane
 of : (κ : Form) (s : Settings) (k : ℕ) (back : Bool) (x : Pass) (n : KeptPass) (d : Plane) (b : Bool) (c : Plane) → x ≡ pass_at s.transform k
     → n ≡ kept_pass (number back x) κ s.depths.c1 → d ≡ first_other x.changed → b ≡ same_plane x.read d → x.changed ≡ c → PassOf κ s k back x n b c
-of κ s k back x n d b c pass_is number_is other_is first-is changed_is = record {
+of κ s k back x n d b c pass_is number_is other_is first_is changed_is = record {
   pass_is = pass_is;
   number_is = number_is;
-  first-is = first-is ∙ ap (same_plane x.read) other_is;
+  first_is = first_is ∙ ap (same_plane x.read) other_is;
   changed_is = changed_is;
 }
 

@@ -20,8 +20,8 @@ abbrev start : At-loop-y → Start
 start l = l.before.before.before.before.before.before.before.before
 
 -- the passes' numbers, forms and depths
-first-is : (l : At-loop-y) → let s = (start l).args in l.before.before.before.before.before.kept_pass-first.result ≡ kept_pass (cond s.back 6 5) Plain s.settings.depths.c1
-first-is l =
+first_is : (l : At-loop-y) → let s = (start l).args in l.before.before.before.before.before.kept_pass-first.result ≡ kept_pass (cond s.back 6 5) Plain s.settings.depths.c1
+first_is l =
     let first = l.before.before.before.before.before in
     let s = (start l).args in
     let e : first.kept_pass-first.result ≡ kept_pass (number s.back first.before.pass_at.result) Plain s.settings.depths.c1 = first.kept_pass-first.ensures in
@@ -46,7 +46,7 @@ turn_at l =
     turn (record {
       unskipped = unskipped;
       depth = subst (λ (n : ℕ). n ≤ 16) d p.depth;
-      first-is = first-is l ∙ ap (kept_pass (cond s.back 6 5) Plain) d;
+      first_is = first_is l ∙ ap (kept_pass (cond s.back 6 5) Plain) d;
       second_is = e ∙ ap (λ (n : KeptPass). kept_pass (cond s.back 8 7) n.form n.depth) (sym e);
       first_range = p.first;
       second_range = p.second;

@@ -4,13 +4,13 @@ use mathlib.Core.Bool.{Bool}
 use Prim.Native.Nat.{◌+◌}
 use lib.ListN.{drop}
 use Rattle.stage.specs.Pixmap.{after_stretch}
-use Rattle.pixmap.proofs.HeaderFields.{ends-here, goes_here, file_ends}
+use Rattle.pixmap.proofs.HeaderFields.{ends_here, goes_here, file_ends}
 use Rattle.pixmap.proofs.header_text.skip_stretch.Goals as goal
 
 pub returns-then-ends_stretch : goal.returns-then-ends_stretch
 returns-then-ends_stretch c =
     let l = c.loop-i in
-    ends-here c.args.file.now l.inside l.i c.loop-i-test.true (sym c.ends_stretch.ensures ∙ c.if-ends_stretch.true) ∙ l.invariant
+    ends_here c.args.file.now l.inside l.i c.loop-i-test.true (sym c.ends_stretch.ensures ∙ c.if-ends_stretch.true) ∙ l.invariant
 
 pub loop-i-preserved : goal.loop-i-preserved
 loop-i-preserved c =

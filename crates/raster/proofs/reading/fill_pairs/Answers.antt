@@ -7,20 +7,20 @@ use mir.Syntax.{w32}
 use mir.Facts.{to_z-of_z}
 use Rattle.integers.proofs.Changes.{changed_none, changed_more}
 use Rattle.raster.proofs.Pairs.{pairs_long}
-use Rattle.raster.proofs.Filling.{place-within, filled}
+use Rattle.raster.proofs.Filling.{place_within, filled}
 use Rattle.raster.proofs.reading.fill_pairs.Goals as goal
 
 pub loop-i-init : goal.loop-i-init
 loop-i-init c = (omega arith, changed_none _ _ refl)
 
 pub overflow_mul-step : goal.overflow_mul-step
-overflow_mul-step c = record { fits = omega (arith, place-within c.loop-i.i c.requires (omega arith), pairs_long c.args.raster.now) }
+overflow_mul-step c = record { fits = omega (arith, place_within c.loop-i.i c.requires (omega arith), pairs_long c.args.raster.now) }
 
 pub overflow_add-step : goal.overflow_add-step
-overflow_add-step c = record { fits = omega (arith, place-within c.loop-i.i c.requires (omega arith), pairs_long c.args.raster.now) }
+overflow_add-step c = record { fits = omega (arith, place_within c.loop-i.i c.requires (omega arith), pairs_long c.args.raster.now) }
 
 pub pair-requires : goal.pair-requires
-pair-requires c = omega (arith, place-within c.loop-i.i c.requires (omega arith), pairs_long c.args.raster.now)
+pair-requires c = omega (arith, place_within c.loop-i.i c.requires (omega arith), pairs_long c.args.raster.now)
 
 pub loop-i-preserved : goal.loop-i-preserved
 loop-i-preserved c =

@@ -19,9 +19,9 @@ use Rattle.raster.proofs.Raised.{sample_raisable, value_most, next_raised, none_
 use Rattle.raster.proofs.writing.put_pairs.Goals as goal
 
 -- what is left to write: the two bytes of sample i, and the rest
-rest-is : {r : Range} {l : List ℤ} {text bytes : List ℕ} {start v : ℕ} (i : ℕ) → Writable 65535 text start bytes r l → v ≡ less_lowest r (to_z w32 (of_z w32 (at l i))) → i < length l
+rest_is : {r : Range} {l : List ℤ} {text bytes : List ℕ} {start v : ℕ} (i : ℕ) → Writable 65535 text start bytes r l → v ≡ less_lowest r (to_z w32 (of_z w32 (at l i))) → i < length l
     → to_pairs (map (less_lowest r) (drop i l)) ≡ (v / 256) ∷ (v % 256) ∷ to_pairs (map (less_lowest r) (drop (i + 1) l))
-rest-is i w e h = ap to_pairs (next_raised w (lit≤ tt) i e h) ∙ next_pair _ _
+rest_is i w e h = ap to_pairs (next_raised w (lit≤ tt) i e h) ∙ next_pair _ _
 
 pub loop-i-init : goal.loop-i-init
 loop-i-init c = (omega arith, remains_all)
@@ -35,16 +35,16 @@ overflow_cast-n c = omega (arith, value_most c.requires (lit≤ tt) c.loop-i.i c
 pub put_byte-next-requires : goal.put_byte-next-requires
 put_byte-next-requires c =
     let p = c.loop-i.invariant.1 in
-    omega (arith, p.end_is, remains_long p, ap length (rest-is c.loop-i.i c.requires c.less_lowest-n.ensures (omega arith)), c.requires.room)
+    omega (arith, p.end_is, remains_long p, ap length (rest_is c.loop-i.i c.requires c.less_lowest-n.ensures (omega arith)), c.requires.room)
 
 pub put_byte-next-requires-in-loop-i : goal.put_byte-next-requires-in-loop-i
 put_byte-next-requires-in-loop-i c =
     let p = c.loop-i.invariant.1 in
-    omega (arith, p.end_is, remains_long p, ap length (rest-is c.loop-i.i c.requires c.less_lowest-n.ensures (omega arith)), c.requires.room)
+    omega (arith, p.end_is, remains_long p, ap length (rest_is c.loop-i.i c.requires c.less_lowest-n.ensures (omega arith)), c.requires.room)
 
 pub loop-i-preserved : goal.loop-i-preserved
 loop-i-preserved c =
-    let e = rest-is c.loop-i.i c.requires c.less_lowest-n.ensures (omega arith) in
+    let e = rest_is c.loop-i.i c.requires c.less_lowest-n.ensures (omega arith) in
     (omega arith, remains_less _ (remains_less _ (rw e at c.loop-i.invariant.1) c.put_byte-next.ensures) c.put_byte-next-in-loop-i.ensures)
 
 pub shape_of-text : goal.shape_of-text
