@@ -2,13 +2,13 @@
 ghost use Rattle.std.specs.Prelude.{◌≡◌, ◌≤◌, length};
 ghost use Rattle.search_cases.specs.Slopes.{Fillable, Lendable, CaseNumbers};
 
-use std::io;
 use crate::picture::{Slope, fill};
 use crate::text::print_answer;
 use case_pictures::{choice, levels};
 use case_text::{print, print_field, print_settings};
 use search::Estimated;
 use stage::{Depths, Settings, each};
+use std::io;
 
 // Scratch for 5,000 samples and depth 8. What it holds does not matter.
 fn searched(
@@ -56,7 +56,15 @@ fn estimated(s: Settings, choices: &[u8], c1: &[i32], c2: &[i32], c3: &[i32]) ->
 }
 
 // What the choices hold before the search does not matter either, so the estimate's are lent to it.
-fn show<R: Print>(rt: &R, s: Settings, rounds: u32, choices: &mut [u8], c1: &[i32], c2: &[i32], c3: &[i32]) -> io::Result<()> {
+fn show<R: Print>(
+    rt: &R,
+    s: Settings,
+    rounds: u32,
+    choices: &mut [u8],
+    c1: &[i32],
+    c2: &[i32],
+    c3: &[i32],
+) -> io::Result<()> {
     let e = estimated(s, choices, c1, c2, c3);
     print(rt, b"estimate")?;
     print_answer(rt, choices, e)?;
@@ -65,7 +73,13 @@ fn show<R: Print>(rt: &R, s: Settings, rounds: u32, choices: &mut [u8], c1: &[i3
     print_answer(rt, choices, f)
 }
 
-fn print_case<R: Print>(rt: &R, s: Settings, rounds: u32, slope: Slope, seed: u32) -> io::Result<()> {
+fn print_case<R: Print>(
+    rt: &R,
+    s: Settings,
+    rounds: u32,
+    slope: Slope,
+    seed: u32,
+) -> io::Result<()> {
     print_settings(rt, s)?;
     print_field(rt, b" noise", slope.noise)?;
     print_field(rt, b" step", slope.step)?;
@@ -74,14 +88,17 @@ fn print_case<R: Print>(rt: &R, s: Settings, rounds: u32, slope: Slope, seed: u3
     print(rt, b"\n")
 }
 
-fn fill_and_show<R: Print>(rt: &R, s: Settings,
+fn fill_and_show<R: Print>(
+    rt: &R,
+    s: Settings,
     rounds: u32,
     slope: Slope,
     seed: u32,
     choices: &mut [u8],
     c1: &mut [i32],
     c2: &mut [i32],
-    c3: &mut [i32],) -> io::Result<()>
+    c3: &mut [i32],
+) -> io::Result<()>
     requires { Fillable slope }
 {
     let x2 = fill(c1, slope, levels(slope.depths.c1), seed);
@@ -98,13 +115,23 @@ fn plane() -> [i32; 5000]
     [0; 5000]
 }
 
-fn lend<R: Print>(rt: &R, s: Settings, rounds: u32, slope: Slope, seed: u32, choices: &mut [u8], n: usize) -> io::Result<()>
+fn lend<R: Print>(
+    rt: &R,
+    s: Settings,
+    rounds: u32,
+    slope: Slope,
+    seed: u32,
+    choices: &mut [u8],
+    n: usize,
+) -> io::Result<()>
     requires { Lendable slope n }
 {
     let mut c1 = plane();
     let mut c2 = plane();
     let mut c3 = plane();
-    fill_and_show(rt, s,
+    fill_and_show(
+        rt,
+        s,
         rounds,
         slope,
         seed,
@@ -116,7 +143,16 @@ fn lend<R: Print>(rt: &R, s: Settings, rounds: u32, slope: Slope, seed: u32, cho
 }
 
 // A picture of n samples and of three depths, with as many choices as the transform has places.
-fn choose<R: Print>(rt: &R, s: Settings, rounds: u32, depths: Depths, noise: u32, step: u32, seed: u32, n: usize) -> io::Result<()>
+fn choose<R: Print>(
+    rt: &R,
+    s: Settings,
+    rounds: u32,
+    depths: Depths,
+    noise: u32,
+    step: u32,
+    seed: u32,
+    n: usize,
+) -> io::Result<()>
     requires { CaseNumbers depths noise step seed n }
 {
     let slope = Slope {
@@ -179,7 +215,14 @@ fn sized<R: Print>(rt: &R, k: u32) -> io::Result<()>
 }
 
 // A picture of nine samples and depth 8 with other settings.
-fn refusal<R: Print>(rt: &R, width: u32, height: u32, depths: Depths, transform: u32, rounds: u32) -> io::Result<()> {
+fn refusal<R: Print>(
+    rt: &R,
+    width: u32,
+    height: u32,
+    depths: Depths,
+    transform: u32,
+    rounds: u32,
+) -> io::Result<()> {
     let s = Settings {
         width: width,
         height: height,
@@ -198,7 +241,9 @@ fn refusal<R: Print>(rt: &R, width: u32, height: u32, depths: Depths, transform:
 // past a plane's highest.
 pub(crate) fn refusals<R: Print>(rt: &R) -> io::Result<()> {
     refusal(rt, 0, 3, each(8), 0, 1)?;
-    refusal(rt, 3,
+    refusal(
+        rt,
+        3,
         3,
         Depths {
             c1: 8,
@@ -213,7 +258,9 @@ pub(crate) fn refusals<R: Print>(rt: &R) -> io::Result<()> {
     refusal(rt, 3, 3, each(9), 1, 1)?;
     refusal(rt, 3, 3, each(8), 0, 0)?;
     refusal(rt, 3, 3, each(8), 0, 5)?;
-    refusal(rt, 3,
+    refusal(
+        rt,
+        3,
         3,
         Depths {
             c1: 8,

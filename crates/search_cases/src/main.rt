@@ -6,8 +6,8 @@ mod cases;
 mod picture;
 mod text;
 
-use std::io;
 use cases::{cases, refusals};
+use std::io;
 
 fn main(rt: HostRuntime) -> io::Result<()> {
     cases(&rt)?;

@@ -1,7 +1,7 @@
 // Pieces of the lines that are printed.
-use std::io;
 use case_text::{print, print_field, print_filters};
 use search::Estimated;
+use std::io;
 
 // The filters, and what a call answers of them.
 pub(crate) fn print_answer<R: Print>(rt: &R, filters: &[u8], answer: Estimated) -> io::Result<()> {
