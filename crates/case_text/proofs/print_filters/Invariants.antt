@@ -1,3 +1,4 @@
+-- i is at most the length.
 use Prim.Native.Nat.{◌-◌, ◌≤◌}
 use lib.ListN.{length}
 use Rattle.case_text.proofs.print_filters.Given as goal

@@ -1,10 +1,7 @@
 -- The file is too long, or its header is refused, or it is a pixmap.
 use borrow.Author.Rules.{rules}
-use mathlib.Core.Path.{◌≡◌, sym, ap, ◌∙◌}
+use mathlib.Core.Path.{sym}
 use native.Mathlib.Omega.{arith}
-use Rattle.stage.specs.Answers.{done}
-use Rattle.stage.specs.Pixmap.{header_of}
-use Rattle.pixmap.specs.Replies.{header_reply}
 use Rattle.report_text.proofs.Reports.{report_long, report_refused, report_read, report_as}
 use Rattle.report_text.proofs.put_report.Goals as goal
 

@@ -1,5 +1,4 @@
 -- The text starts as zeros.
-use borrow.Author.Rules.{rules}
 use Rattle.report_text.proofs.Reports.{output_is}
 use Rattle.report_text.proofs.report.Goals as goal
 

@@ -1,12 +1,10 @@
 -- From i on the filters remain to be written.
-use borrow.Author.Rules.{rules}
 use mathlib.Core.Path.{ap}
-use Prim.Native.Nat.{◌-◌, ◌≤◌, ◌<◌}
+use Prim.Native.Nat.{◌≤◌, ◌<◌}
 use native.Mathlib.Omega.{arith}
-use lib.ListN.{length, drop, length-append}
-use Rattle.report_text.specs.Text.{separated}
+use lib.ListN.{length, length-append}
 use Rattle.report_text.proofs.Filters.{separated_more, separated_none}
-use Rattle.text.proofs.Written.{Remains, remains_all, remains_less, remains_none, remains_long}
+use Rattle.text.proofs.Written.{remains_all, remains_less, remains_none, remains_long}
 use Rattle.report_text.proofs.lines.put_filters.Goals as goal
 
 pub loop-i-init : goal.loop-i-init

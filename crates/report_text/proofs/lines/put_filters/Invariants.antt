@@ -1,11 +1,7 @@
-use borrow.Author.Rules.{rules}
-use mathlib.Core.Path.{ap}
-use Prim.Native.Nat.{◌-◌, ◌≤◌, ◌<◌}
-use native.Mathlib.Omega.{arith}
-use lib.ListN.{length, drop, length-append}
+use Prim.Native.Nat.{◌-◌, ◌≤◌}
+use lib.ListN.{length, drop}
 use Rattle.report_text.specs.Text.{separated}
-use Rattle.report_text.proofs.Filters.{separated_more, separated_none}
-use Rattle.text.proofs.Written.{Remains, remains_all, remains_less, remains_none, remains_long}
+use Rattle.text.proofs.Written.{Remains}
 use Rattle.report_text.proofs.lines.put_filters.Given as goal
 
 abbrev pub invariant-loop-i : goal.invariant-loop-i

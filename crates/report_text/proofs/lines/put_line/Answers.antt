@@ -1,10 +1,7 @@
 -- Four pieces one behind the other; bytes have few digits.
-use borrow.Author.Rules.{rules}
-use Prim.Native.Nat.{◌*◌, ◌≤◌}
 use native.Mathlib.Omega.{arith}
-use lib.ListN.{length}
 use Rattle.text.proofs.Written.{then}
-use Rattle.report_text.specs.Text.{separated, line}
+use Rattle.report_text.specs.Text.{line}
 use Rattle.report_text.proofs.Filters.{separated_short}
 use Rattle.report_text.proofs.lines.put_line.Goals as goal
 

@@ -1,9 +1,5 @@
 -- Three pieces one behind the other.
-use borrow.Author.Rules.{rules}
-use Prim.Native.Nat.{◌≤◌}
 use native.Mathlib.Omega.{arith}
-use lib.ListN.{length}
-use Rattle.stage.specs.Decimal.{numeral}
 use Rattle.text.proofs.Numerals.{numeral_short}
 use Rattle.text.proofs.Written.{then}
 use Rattle.report_text.specs.Text.{refusal_line}

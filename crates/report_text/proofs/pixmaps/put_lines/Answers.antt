@@ -1,5 +1,4 @@
 -- Five pieces one behind the other.
-use borrow.Author.Rules.{rules}
 use native.Mathlib.Omega.{arith}
 use Rattle.text.proofs.Written.{then}
 use Rattle.report_text.proofs.pixmaps.put_lines.Goals as goal

@@ -1,5 +1,4 @@
 -- What the searches found decides: the first refusal, or four lines.
-use borrow.Author.Rules.{rules}
 use mathlib.Core.Path.{◌≡◌, ap, ◌∙◌}
 use Prim.Native.Nat.{ℕ}
 use Rattle.stage.specs.Planes.{triple}

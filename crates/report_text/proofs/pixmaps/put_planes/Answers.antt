@@ -1,5 +1,4 @@
 -- The planes that are filled are those of the raster.
-use borrow.Author.Rules.{rules}
 use Rattle.stage.specs.Pixmap.{Header}
 use mathlib.Core.Path.{ap}
 use Rattle.stage.specs.Planes.{triple}

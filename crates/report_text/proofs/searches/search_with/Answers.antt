@@ -1,5 +1,4 @@
 -- The call's promise, over scratch that is all zero.
-use borrow.Author.Rules.{rules}
 use Rattle.stage.specs.Planes.{triple}
 use Rattle.report_text.specs.Report.{lent}
 use Rattle.report_text.proofs.Replies.{found_by}

@@ -1,3 +1,4 @@
+-- k counts to 52.
 use Prim.Native.Nat.{◌-◌, ◌≤◌}
 use Rattle.transform_cases.proofs.pictures.pictures.Given as goal
 

@@ -1,3 +1,4 @@
+-- i is at most the length.
 use Prim.Native.Nat.{◌-◌, ◌≤◌}
 use lib.ListN.{length}
 use Rattle.transform_cases.proofs.text.print_plane.Given as goal
