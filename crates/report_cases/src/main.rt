@@ -1,9 +1,8 @@
 // The report on each file of data/, behind its name.
 #![tactic(auto)]
 
-use std::fs;
-use std::io;
 use std::rt::Files;
+use std::{fs, io};
 
 fn case<R: Files + Print>(rt: &R, name: &str) -> io::Result<()> {
     rt.write_all(name.as_bytes())?;
