@@ -7,10 +7,13 @@ L(n) is the greatest whole number with 2^L(n) not above n^64, so one less than t
 digits of n^64. The proof of `logs::table` tests every entry by that rule, whatever printed them.
 """
 
+import textwrap
+
 COUNT = 4096
 
 print("// L(n) at index n - 1. Printed by table.py.")
 print(f"pub const LOGARITHMS: [u16; {COUNT}] = [")
-for n in range(1, COUNT + 1):
-    print(f"    {(n ** 64).bit_length() - 1},")
+numbers = ", ".join(str((n ** 64).bit_length() - 1) for n in range(1, COUNT + 1)) + ","
+for line in textwrap.wrap(numbers, width=95):
+    print(f"    {line}")
 print("];")
