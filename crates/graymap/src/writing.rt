@@ -71,7 +71,8 @@ pub fn write(settings: Settings, plane: u32, samples: &[i32], file: &mut [u8]) -
         return Stored::Refused(n);
     }
     let range = finished_range(settings.depths, settings.transform, plane);
-    if 65535 < range.below + range.above {
+    let wide = 65535 < range.below + range.above;
+    if wide {
         return Stored::Refused(13);
     }
     write_plane(settings.width, settings.height, range, samples, file)

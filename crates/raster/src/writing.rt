@@ -51,7 +51,8 @@ pub fn put_samples(text: &mut [u8], at: usize, samples: &[i32], range: Range) ->
     requires { Writable 65535 text.old at (samples_raster (extent range) (map (less_lowest range) samples.now)) range samples.now }
     ensures { Written text.old at (samples_raster (extent range) (map (less_lowest range) samples.now)) text.new result }
 {
-    if range.below + range.above < 256 {
+    let narrow = range.below + range.above < 256;
+    if narrow {
         put_ones(text, at, samples, range)
     } else {
         put_pairs(text, at, samples, range)

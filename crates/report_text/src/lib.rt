@@ -18,7 +18,8 @@ fn put_report(text: &mut [u8], file: &[u8]) -> usize
     requires { report_room ≤ length text.old }
     ensures { ReportAt text.old (report_of file.now) text.new result }
 {
-    if file.len() > 8192 {
+    let long = file.len() > 8192;
+    if long {
         return put_refusal(text, 9);
     }
     match pixmap::header(file) {

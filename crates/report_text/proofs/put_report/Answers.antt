@@ -5,8 +5,8 @@ use native.Mathlib.Omega.{arith}
 use Rattle.report_text.proofs.Reports.{report_long, report_refused, report_read, report_as}
 use Rattle.report_text.proofs.put_report.Goals as goal
 
-pub returns-then-file-gt8192 : goal.returns-then-file-gt8192
-returns-then-file-gt8192 c = report_as (report_long c.args.file.now (omega arith)) c.put_refusal.ensures
+pub returns-then-long : goal.returns-then-long
+returns-then-long c = report_as (report_long c.args.file.now (omega arith)) c.put_refusal.ensures
 
 pub put_pixmap-requires : goal.put_pixmap-requires
 put_pixmap-requires c = record { header = sym c.in-Picture.ensures; short = omega arith; room = search rules }

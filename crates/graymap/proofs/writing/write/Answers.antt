@@ -16,20 +16,20 @@ finished_range-range-requires c =
     let k = plane_known a.settings a.plane a.samples.now a.file.now c.size_refusal-n.ensures c.if-n-ne0.false in
     (k.depths, k.transform)
 
-pub returns-then-range-gt65535 : goal.returns-then-range-gt65535
-returns-then-range-gt65535 c =
+pub returns-then-wide : goal.returns-then-wide
+returns-then-wide c =
     let a = c.args in
-    wide_refused a.settings a.plane a.samples.now a.file.now c.size_refusal-n.ensures c.if-n-ne0.false (omega (arith, ap extent c.finished_range-range.ensures.0, c.if-range-gt65535.true))
+    wide_refused a.settings a.plane a.samples.now a.file.now c.size_refusal-n.ensures c.if-n-ne0.false (omega (arith, ap extent c.finished_range-range.ensures.0, c.if-wide.true))
 
 pub write_plane-requires : goal.write_plane-requires
 write_plane-requires c =
     let a = c.args in
     subst (λ (x : Range). Plane a.settings.width a.settings.height x a.samples.now) (sym c.finished_range-range.ensures.0)
-    (plane_sized a.settings a.plane a.samples.now a.file.now c.size_refusal-n.ensures c.if-n-ne0.false (omega (arith, ap extent c.finished_range-range.ensures.0, c.if-range-gt65535.false)))
+    (plane_sized a.settings a.plane a.samples.now a.file.now c.size_refusal-n.ensures c.if-n-ne0.false (omega (arith, ap extent c.finished_range-range.ensures.0, c.if-wide.false)))
 
 pub returns : goal.returns
 returns c =
     let a = c.args in
     c.write_plane.ensures
     ∙ ap (λ (x : Range). written_plane a.settings.width a.settings.height x a.samples.now a.file.now) c.finished_range-range.ensures.0
-    ∙ plane_written a.settings a.plane a.samples.now a.file.now c.size_refusal-n.ensures c.if-n-ne0.false (omega (arith, ap extent c.finished_range-range.ensures.0, c.if-range-gt65535.false))
+    ∙ plane_written a.settings a.plane a.samples.now a.file.now c.size_refusal-n.ensures c.if-n-ne0.false (omega (arith, ap extent c.finished_range-range.ensures.0, c.if-wide.false))

@@ -5,21 +5,13 @@ use Rattle.stage.specs.Ranges.{extent}
 use Rattle.raster.proofs.writing.put_samples.Goals as goal
 
 pub put_ones-requires : goal.put_ones-requires
-put_ones-requires c =
-    let s = c.before.before.before.before in
-    record { room = rw (lt-ltb (extent s.args.range) 256 c.before.if-range-lt256.true) at s.requires.room; narrow = omega (arith, c.before.if-range-lt256.true); within = s.requires.within }
+put_ones-requires c = record { room = rw (lt-ltb (extent c.args.range) 256 (omega arith)) at c.requires.room; narrow = omega arith; within = c.requires.within }
 
 pub put_pairs-requires : goal.put_pairs-requires
-put_pairs-requires c =
-    let s = c.before.before.before.before in
-    record { room = rw (le-ltb (extent s.args.range) 256 c.before.if-range-lt256.false) at s.requires.room; narrow = s.requires.narrow; within = s.requires.within }
+put_pairs-requires c = record { room = rw (le-ltb (extent c.args.range) 256 (omega arith)) at c.requires.room; narrow = c.requires.narrow; within = c.requires.within }
 
-pub returns-then-range-lt256 : goal.returns-then-range-lt256
-returns-then-range-lt256 c =
-    let i = c.before.before.before.before in
-    rw (lt-ltb (extent i.before.before.before.args.range) 256 i.if-range-lt256.true) c.before.before.put_ones.ensures
+pub returns-then-narrow : goal.returns-then-narrow
+returns-then-narrow c = rw (lt-ltb (extent c.args.range) 256 (omega arith)) c.put_ones.ensures
 
-pub returns-else-range-lt256 : goal.returns-else-range-lt256
-returns-else-range-lt256 c =
-    let i = c.before.before.before.before in
-    rw (le-ltb (extent i.before.before.before.args.range) 256 i.if-range-lt256.false) c.before.before.put_pairs.ensures
+pub returns-else-narrow : goal.returns-else-narrow
+returns-else-narrow c = rw (le-ltb (extent c.args.range) 256 (omega arith)) c.put_pairs.ensures
