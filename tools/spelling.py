@@ -13,9 +13,10 @@ rewritten are whole names in the .antt and .rt files, in the must-fail edits, an
 import collections
 import os
 import re
+import shutil
 import sys
 
-KIT = os.path.dirname(os.path.dirname(os.path.realpath(os.popen("command -v rt").read().strip() or "/opt/rattle/bin/rt")))
+KIT = os.path.dirname(os.path.dirname(os.path.realpath(shutil.which("rt"))))
 LISTS = {"length", "take", "drop", "append", "set", "sets", "map", "get", "put", "at", "get_or", "replicate", "reverse"}
 KEPT = {"RCT", "YCoCg-R", "RDgDb", "LDgEb"}
 NAME = r"[^\s(){}\[\];,.`\"]+"

@@ -33,7 +33,7 @@ fn put_report(text: &mut [u8], file: &[u8]) -> usize
 }
 
 // What the report program prints: the first bytes of the text.
-#[derive(Drop)]
+#[derive(Clone, Copy)]
 pub struct Output {
     pub text: [u8; 320],
     pub length: usize,
