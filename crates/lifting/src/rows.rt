@@ -76,7 +76,8 @@ pub(crate) fn lift_plane(
     requires { PassReady settings place filter from to (triple c1.old c2.old c3.old) }
     ensures { RowsChanged (passed form settings back filter (pass_at settings.transform place) (triple c1.old c2.old c3.old)) (pass_at settings.transform place).changed settings from to (triple c1.old c2.old c3.old) (triple c1.new c2.new c3.new) }
 {
-    if filter == 12 {
+    let null = filter == 12;
+    if null {
         return;
     }
     let x = pass_at(settings.transform, place);
@@ -110,7 +111,8 @@ pub(crate) fn lift_quarter(
     requires { QuarterReady settings f g from to a.now b.now c.old }
     ensures { Changed (quarter_at form settings.depths.c1 settings.width settings.height back f g a.now b.now) (from * settings.width) (to * settings.width) c.old c.new }
 {
-    if (f == 12) & (g == 12) {
+    let null = (f == 12) & (g == 12);
+    if null {
         return;
     }
     let first = kept_pass(pass_at(0, 2), back, Form::Plain, settings.depths.c1);

@@ -1,3 +1,4 @@
+use native.Mathlib.Omega.{arith}
 use mathlib.Core.Path.{◌≡◌, ap, ◌∙◌}
 use Rattle.stage.specs.declared.Plane.{Plane}
 use Rattle.stage.specs.declared.Plane.TheVariants.{C1, C2, C3}
@@ -23,10 +24,10 @@ of κ s k back x n d b c pass_is number_is other_is first_is changed_is = record
   changed_is = changed_is;
 }
 
-pub returns-then-filter-eq12 : goal.returns-then-filter-eq12
-returns-then-filter-eq12 c =
+pub returns-then-null : goal.returns-then-null
+returns-then-null c =
     let a = c.args in
-    pass_skipped a.form a.settings a.back a.filter a.from a.to (pass_at a.settings.transform a.place) (triple a.c1.now a.c2.now a.c3.now) c.if-filter-eq12.true
+    pass_skipped a.form a.settings a.back a.filter a.from a.to (pass_at a.settings.transform a.place) (triple a.c1.now a.c2.now a.c3.now) (omega arith)
 
 pub pass_at-x-requires : goal.pass_at-x-requires
 pass_at-x-requires c = c.requires.place
@@ -54,18 +55,18 @@ returns-in-C1 c =
     let a = c.args in
     pass_changed c.requires
     (of a.form a.settings a.place a.back c.pass_at-x.result c.kept_pass-n.result c.first_other.result c.same_plane-first.result C1 c.pass_at-x.ensures c.kept_pass-n.ensures c.first_other.ensures c.same_plane-first.ensures c.in-C1.is)
-    c.if-filter-eq12.false c.lift_by.ensures
+    (λ e. omega arith) c.lift_by.ensures
 
 pub returns-in-C2 : goal.returns-in-C2
 returns-in-C2 c =
     let a = c.args in
     pass_changed c.requires
     (of a.form a.settings a.place a.back c.pass_at-x.result c.kept_pass-n.result c.first_other.result c.same_plane-first.result C2 c.pass_at-x.ensures c.kept_pass-n.ensures c.first_other.ensures c.same_plane-first.ensures c.in-C2.is)
-    c.if-filter-eq12.false c.lift_by-in-C2.ensures
+    (λ e. omega arith) c.lift_by-in-C2.ensures
 
 pub returns-in-C3 : goal.returns-in-C3
 returns-in-C3 c =
     let a = c.args in
     pass_changed c.requires
     (of a.form a.settings a.place a.back c.pass_at-x.result c.kept_pass-n.result c.first_other.result c.same_plane-first.result C3 c.pass_at-x.ensures c.kept_pass-n.ensures c.first_other.ensures c.same_plane-first.ensures c.in-C3.is)
-    c.if-filter-eq12.false c.lift_by-in-C3.ensures
+    (λ e. omega arith) c.lift_by-in-C3.ensures

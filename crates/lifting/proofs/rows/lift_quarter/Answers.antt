@@ -41,7 +41,7 @@ turn_at l =
     let s = (start l).args in
     let p = (start l).requires in
     let e = second_is l in
-    let unskipped : (eqb s.f 12 && eqb s.g 12) ≡ false = first.before.before.if-f-g.false in
+    let unskipped : (eqb s.f 12 && eqb s.g 12) ≡ false = l.if-null.false in
     let d : s.settings.depths.c1 ≡ l.before.before.before.kept_pass-second.result.depth = sym (ap (λ (n : KeptPass). n.depth) e) in
     turn (record {
       unskipped = unskipped;
@@ -53,10 +53,10 @@ turn_at l =
       own_range = p.changed;
     }) l.loop-y.invariant.2 (mul-le-mul_right s.settings.width l.loop-y.invariant.0) (omega arith)
 
-pub returns-then-f-g : goal.returns-then-f-g
-returns-then-f-g c =
+pub returns-then-null : goal.returns-then-null
+returns-then-null c =
     let s = c.before.args in
-    null_quarter s.form s.settings.depths.c1 s.settings.width s.settings.height s.f s.g _ _ s.back s.a.now s.b.now s.c.now c.if-f-g.true
+    null_quarter s.form s.settings.depths.c1 s.settings.width s.settings.height s.f s.g _ _ s.back s.a.now s.b.now s.c.now c.if-null.true
 
 pub pass_at-requires : goal.pass_at-requires
 pass_at-requires c = lit< tt

@@ -57,7 +57,7 @@ pub overflow_add-first : goal.overflow_add-first
 overflow_add-first c = let m = within c.requires _ _ c.places.ensures (place c.requires) in search rules
 
 pub filter_at-f-requires : goal.filter_at-f-requires
-filter_at-f-requires c = within c.requires _ _ c.places.ensures (place c.requires)
+filter_at-f-requires c = omega (arith, within c.requires _ _ c.places.ensures (place c.requires))
 
 pub overflow_add-first-then-settings-k : goal.overflow_add-first-then-settings-k
 overflow_add-first-then-settings-k c =
@@ -65,7 +65,7 @@ overflow_add-first-then-settings-k c =
     search rules
 
 pub filter_at-g-requires : goal.filter_at-g-requires
-filter_at-g-requires c = within c.requires _ 3 c.places.ensures (second c.requires c.if-settings-k.true)
+filter_at-g-requires c = omega (arith, within c.requires _ 3 c.places.ensures (second c.requires c.if-settings-k.true))
 
 pub lift_quarter-requires : goal.lift_quarter-requires
 lift_quarter-requires c =
