@@ -4,7 +4,7 @@
     python3 crates/logs/table.py > crates/logs/src/entries.rt
 
 L(n) is the greatest whole number with 2^L(n) not above n^64, so one less than the number of binary
-digits of n^64. The proof of `logs::table` tests every entry by that rule, whatever printed them.
+digits of n^64. The proof of `logs::log` tests every entry by that rule, whatever printed them.
 """
 
 import textwrap

@@ -1,5 +1,5 @@
 -- The generator of pictures.
-use Rattle.std.specs.Prelude.{List, ◌≡◌, ℕ, zero, suc, ◌+◌, ◌*◌, ◌/◌, ◌%◌, ◌^◌, ◌≤◌, ℤ, pos, length}
+use Rattle.std.specs.Prelude.{List, ◌≡◌, ℕ, zero, suc, ◌+◌, ◌*◌, ◌/◌, ◌%◌, ℤ, pos, length}
 use Rattle.integers.specs.Lists.{map_indexed}
 
 -- the generator's next number, modulo 2^32
@@ -18,15 +18,6 @@ sample levels x = pos (x / 65536 % levels)
 -- a plane's samples: that of index k from the number after k + 1 steps
 abbrev pub generated : ℕ → ℕ → List ℤ → List ℤ
 generated levels x plane = map_indexed (λ k z. sample levels (after (k + 1) x)) 0 plane
-
--- as many values as a sample of a depth can have
-pub record Levels (n : ℕ) : Type 0 where
-  pub some : 1 ≤ n
-  pub most : n ≤ 65536
-
-pub record LevelsOf (depth n : ℕ) : Type 0 where
-  pub is : n ≡ 2 ^ depth
-  pub levels : Levels n
 
 -- a plane that was filled from the number x on, and the generator's number behind it
 pub record Filled (levels x : ℕ) (before plane : List ℤ) (r : ℕ) : Type 0 where

@@ -1,62 +1,71 @@
 // Pictures by number: samples of a linear congruential generator, plane 1 row by row, then plane 2, then plane 3.
 #![tactic(auto)]
 
-ghost use Rattle.std.specs.Prelude.{◌≡◌, ◌↔◌, true, ◌+◌, ◌*◌, ◌%◌, ◌≤◌};
-ghost use Rattle.case_pictures.specs.Generated.{next, sample, generated, Levels, LevelsOf, Filled};
+ghost use Rattle.std.specs.Prelude.{◌≡◌, ◌↔◌, true, ℕ, ◌+◌, ◌*◌, ◌%◌, ◌^◌, ◌<◌, ◌≤◌, slice_index};
+ghost use Rattle.case_pictures.specs.Generated.{next, sample, generated, Filled};
 
 // M + 1, how many values a sample of a depth has.
-pub fn levels(depth: u32) -> u32
-    requires { depth ≤ 16 }
-    ensures { LevelsOf depth result }
-{
-    1u32 << depth
+#[derive(Clone, Copy, Debug, PartialEq, Eq)]
+pub struct Levels {
+    pub count: u32,
+    ghost some: { 1 ≤ count },
+    ghost most: { count ≤ 65536 },
 }
 
-// The generator's next number.
-pub fn next(x: u32) -> u32
-    ensures { result ≡ next x }
-{
-    ((x as u64 * 1664525 + 1013904223) % 4294967296) as u32
-}
-
-// A sample below `levels`.
-fn sample(x: u32, levels: u32) -> i32
-    requires { Levels levels }
-    ensures { result ≡ sample levels x }
-{
-    (x / 65536 % levels) as i32
-}
-
-// Fills a plane with samples and answers the generator's last number, from which the next plane goes on.
-pub fn fill(plane: &mut [i32], levels: u32, x: u32) -> u32
-    requires { Levels levels }
-    ensures { Filled levels x plane.old plane.new result }
-{
-    let mut y = x;
-    let mut i = 0;
-    while i < plane.len() {
-        y = next(y);
-        plane[i] = sample(y, levels);
-        i += 1;
-    }
-    y
-}
-
-// Whether a plane holds what `fill` puts there.
-pub fn is_filled(plane: &[i32], levels: u32, x: u32) -> bool
-    requires { Levels levels }
-    ensures { (result ≡ true) ↔ (plane.now ≡ generated levels x plane.now) }
-{
-    let mut y = x;
-    let mut i = 0;
-    while i < plane.len() {
-        y = next(y);
-        if plane[i] != sample(y, levels) {
-            return false;
+impl Levels {
+    pub fn of(depth: u32) -> Levels
+        requires { depth ≤ 16 }
+        ensures { result.count ≡ 2 ^ depth }
+    {
+        Levels {
+            count: 1u32 << depth,
         }
-        i += 1;
     }
-    true
+
+    // The sample that a number gives.
+    fn sample(self, x: u32) -> i32
+        ensures { result ≡ sample self.count x }
+    {
+        (x / 65536 % self.count) as i32
+    }
+}
+
+// The generator: its last number. It is no iterator, since nothing is known of a plane that was written through a `zip`.
+#[derive(Clone, Copy, Debug, PartialEq, Eq)]
+pub struct Generator {
+    pub x: u32,
+}
+
+impl Generator {
+    // The next number, which is the last from then on.
+    pub fn draw(&mut self) -> u32
+        ensures number { result ≡ next self.old.x }
+        ensures last { self.new.x ≡ result }
+    {
+        self.x = self.x.wrapping_mul(1664525).wrapping_add(1013904223);
+        self.x
+    }
+
+    // Fills a plane with samples. The next plane goes on from there.
+    pub fn fill(&mut self, plane: &mut [i32], levels: Levels)
+        ensures { Filled levels.count self.old.x plane.old plane.new self.new.x }
+    {
+        for z in plane.iter_mut() {
+            *z = levels.sample(self.draw());
+        }
+    }
+
+    // Whether a plane holds what `fill` puts there. No chain: its closure would change the generator.
+    pub fn has_filled(mut self, plane: &[i32], levels: Levels) -> bool
+        ensures { (result ≡ true) ↔ (plane.now ≡ generated levels.count self.x plane.now) }
+    {
+        for z in plane {
+            if *z != levels.sample(self.draw()) {
+                return false;
+            }
+        }
+        true
+    }
 }
 
 // A filter for a place, so that n = 0 to 12 puts each filter at each place.
@@ -65,4 +74,12 @@ pub fn choice(n: u32, place: u32) -> u8
     ensures { result ≡ (n + 3 * place) % 13 }
 {
     ((n + 3 * place) % 13) as u8
+}
+
+// The filters of n for four places, of which a transform takes as many as it has.
+pub fn choices(n: u32) -> [u8; 4]
+    requires { n ≤ 1073741824 }
+    ensures { (k : ℕ) → k < 4 → slice_index result k ≡ (n + 3 * k) % 13 }
+{
+    [choice(n, 0), choice(n, 1), choice(n, 2), choice(n, 3)]
 }

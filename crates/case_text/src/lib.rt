@@ -1,72 +1,61 @@
 // Pieces of the lines that the programs of cases print.
 #![tactic(auto)]
 
-ghost use Rattle.std.specs.Prelude.{◌≡◌, nat_abs};
+ghost use Rattle.std.specs.Prelude.{Some, codes};
+ghost use Rattle.case_text.specs.Lines.{numbers_text, separated, settings_text};
 
-use stage::Settings;
-use std::io;
+use stage::{Settings, Triple};
+use std::fmt;
 
-pub fn print<R: Print>(rt: &R, text: &[u8]) -> io::Result<()> {
-    rt.write_all(text)
-}
+// A run's settings.
+#[derive(Clone, Copy)]
+pub struct SettingsText(pub Settings);
 
-fn print_decimal<R: Print>(rt: &R, n: u64) -> io::Result<()> {
-    print!(rt; "{n}")
-}
+impl fmt::Display for SettingsText {
+    ghost output = { λ t. Some (settings_text t.0) };
 
-// A name and its number, with a blank before the number.
-pub fn print_field<R: Print>(rt: &R, name: &[u8], n: u32) -> io::Result<()> {
-    print(rt, name)?;
-    print(rt, b" ")?;
-    print_decimal(rt, n as u64)
-}
-
-fn magnitude(z: i32) -> u64
-    ensures { result ≡ nat_abs z }
-{
-    if z < 0 {
-        (0 - z as i64) as u64
-    } else {
-        z as u64
+    fn fmt<W: fmt::Write>(&self, f: &mut fmt::Formatter<W>) -> fmt::Result {
+        let Settings {
+            width,
+            height,
+            depths: Triple { c1, c2, c3 },
+            transform,
+        } = self.0;
+        write!(
+            f,
+            "transform {transform} width {width} height {height} depths {c1} {c2} {c3}"
+        )
     }
 }
 
-pub fn print_sample<R: Print>(rt: &R, z: i32) -> io::Result<()> {
-    if z < 0 {
-        print(rt, b"-")?;
-    }
-    print_decimal(rt, magnitude(z))
-}
+// Filters behind a blank, with commas between.
+#[derive(Clone, Copy)]
+pub struct FiltersText<'a>(pub &'a [u8]);
 
-fn print_filter<R: Print>(rt: &R, separator: &[u8], filter: u8) -> io::Result<()> {
-    print(rt, separator)?;
-    print_decimal(rt, filter as u64)
-}
+impl fmt::Display for FiltersText<'_> {
+    ghost output = { λ t. Some (separated (codes " ") t.0.now) };
 
-// Filter i of a list, behind a blank or a comma.
-fn print_filter_at<R: Print>(rt: &R, i: usize, f: u8) -> io::Result<()> {
-    if i == 0 {
-        print_filter(rt, b" ", f)
-    } else {
-        print_filter(rt, b",", f)
+    fn fmt<W: fmt::Write>(&self, f: &mut fmt::Formatter<W>) -> fmt::Result {
+        let mut separator = " ";
+        for filter in self.0 {
+            write!(f, "{separator}{filter}")?;
+            separator = ",";
+        }
+        Ok(())
     }
 }
 
-// Filters with commas between.
-pub fn print_filters<R: Print>(rt: &R, filters: &[u8]) -> io::Result<()> {
-    let mut i = 0;
-    while i < filters.len() {
-        print_filter_at(rt, i, filters[i])?;
-        i += 1;
-    }
-    Ok(())
-}
+// Numbers, each behind a blank.
+#[derive(Clone, Copy)]
+pub struct NumbersText<'a>(pub &'a [i32]);
 
-pub fn print_settings<R: Print>(rt: &R, s: Settings) -> io::Result<()> {
-    print_field(rt, b"transform", s.transform)?;
-    print_field(rt, b" width", s.width)?;
-    print_field(rt, b" height", s.height)?;
-    print_field(rt, b" depths", s.depths.c1)?;
-    print_field(rt, b"", s.depths.c2)?;
-    print_field(rt, b"", s.depths.c3)
+impl fmt::Display for NumbersText<'_> {
+    ghost output = { λ t. Some (numbers_text t.0.now) };
+
+    fn fmt<W: fmt::Write>(&self, f: &mut fmt::Formatter<W>) -> fmt::Result {
+        for z in self.0 {
+            write!(f, " {z}")?;
+        }
+        Ok(())
+    }
 }

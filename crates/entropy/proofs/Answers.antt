@@ -16,7 +16,8 @@ use Rattle.stage.specs.Planes.{Planes, get}
 use Rattle.stage.specs.Steps.{steps}
 use Rattle.stage.specs.Transform.{settings_tests, lengths, count_fits, choices_fit, setup, transformed, is_picture}
 use Rattle.stage.specs.Estimate.{counted, counted_residual, plane_counts, plane_estimate, picture_estimate}
-use Rattle.stage.specs.Search.{Estimated, Scratch, Lent, choices_estimate, estimated, winners, estimate_with, search_with, counters_fit, scratch_fits, cleared_scratch, cleared_counters, estimate_call, search_call, estimate_in_place, search_in_place}
+use Rattle.stage.specs.declared.Estimated.{Estimated}
+use Rattle.stage.specs.Search.{Scratch, Lent, choices_estimate, estimated, winners, estimate_with, search_with, counters_fit, scratch_fits, cleared_scratch, cleared_counters, estimate_call, search_call, estimate_in_place, search_in_place}
 use Rattle.stage.proofs.Answers.{Numbered, done_refusal, refusal_holds, holds_append}
 use Rattle.stage.proofs.Validity.{ValidSettings, settings_iff, has_size, pixels_some}
 use Rattle.stage.proofs.Reversal.{run_length}

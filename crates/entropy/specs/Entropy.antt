@@ -10,7 +10,8 @@ use Rattle.stage.specs.Answers.{done}
 use Rattle.stage.specs.Planes.{Planes, get}
 use Rattle.stage.specs.Transform.{transformed}
 use Rattle.stage.specs.Estimate.{counted, total, estimate_of_counts, plane_counts, plane_estimate, picture_estimate}
-use Rattle.stage.specs.Search.{Estimated, Scratch, Lent, estimate_call, search_call, estimate_in_place, search_in_place}
+use Rattle.stage.specs.declared.Estimated.{Estimated}
+use Rattle.stage.specs.Search.{Scratch, Lent, estimate_call, search_call, estimate_in_place, search_in_place}
 
 -- P of counts c1, c2, ..: "the product of c^c"
 unfoldable pub product : List ℕ → ℕ

@@ -14,13 +14,11 @@ use Rattle.stage.specs.Estimate.{counted_index}
 use Rattle.stage.proofs.Counting.{counted_rule}
 use Rattle.estimate.specs.Counting.{Holds, Occurrences}
 
--- after j of n turns: the next index i and its column x, in 4096ths, where s is the distance of two samples; the numbers f 0, .. f (j − 1)
+-- after j turns: the next index i and its column x, in 4096ths, where s is the distance of two samples; the numbers f 0, .. f (j − 1)
 -- in a list; and how often each of them occurs, in as many counters as at the start, l₀
-pub record CountedTo (f : ℕ → ℕ) (s w n : ℕ) (l₀ : List ℕ) (j i x : ℕ) (bins l : List ℕ) : Type 0 where
-  pub turns : j ≤ n
+pub record CountedTo (f : ℕ → ℕ) (s w : ℕ) (l₀ : List ℕ) (j i x : ℕ) (bins l : List ℕ) : Type 0 where
   pub index : i ≡ j * s
   pub column : x ≡ j * s % (w * 4096)
-  pub room : length bins ≡ 4096
   pub long : length l ≡ length l₀
   pub found : Holds f j bins
   pub counts : Occurrences f j l

@@ -17,7 +17,6 @@ use Rattle.estimate.specs.Counting.{Holds, AllZero, Occurrences, Remaining, entr
 
 -- after j of n turns of the second pass, from the counters l₀, with the sum so far
 pub record SecondPass (f : ℕ → ℕ) (n j : ℕ) (l₀ l : List ℕ) (s : ℕ) : Type 0 where
-  pub turns : j ≤ n
   pub long : length l ≡ length l₀
   pub counts : Remaining f n j l
   pub sum : s ≡ log_sum (histogram eqb f n j)

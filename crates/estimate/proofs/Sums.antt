@@ -1,16 +1,17 @@
 -- The sum of c × L(c) over all counters, and that it is the one over how often each number occurs.
-use mathlib.Core.Path.{◌≡◌, refl, ◌∙◌}
+use mathlib.Core.Path.{◌≡◌, refl, sym, ◌∙◌}
 use mathlib.Core.List.{List, [], ◌∷◌}
-use mathlib.Core.Logic.{⊎_elim}
 use Prim.Native.Nat.{ℕ, zero, suc, ◌+◌, ◌*◌, ◌≤◌, ◌<◌}
 use native.Mathlib.Omega.{arith}
 use native.Mathlib.Numerals.{add-one}
-use native.Mathlib.Nat.{not-suc-le-zero, eq-or-lt_of_le}
-use lib.Dec.{ltb, eqb}
+use native.Mathlib.Nat.{not-suc-le-zero, zero-add}
+use lib.Dec.{eqb}
+use Rattle.std.proofs.Common.{sum_by, take, drop, replicate, ◌++◌}
 use lib.ListN.{length, get_or, set, length-set}
-use lib.Seq.{get_or-set_same, get_or-set_other}
-use borrow.Author.Tests.{ltb-true, ltb-false, ne_eqb}
-use borrow.Table.Steps.{cases}
+use Rattle.std.proofs.lemmas.List.{take-append-drop, get_or-drop}
+use Rattle.std.proofs.lemmas.List.Sums.{sum_by-cons}
+use Rattle.std.proofs.lemmas.List.Elements.{All-take, All-from_get_or}
+use borrow.Author.Tests.{ne_eqb}
 use Rattle.stage.specs.Logarithm.{L}
 use Rattle.stage.specs.Estimate.{occurrences, histogram, log_sum}
 use Rattle.estimate.specs.Counting.{AllZero, Occurrences, Remaining, Summable, entry}
@@ -66,40 +67,41 @@ occurrences_behind f zero m x h g = refl
 occurrences_behind f (suc n) m x h g =
     rw (ne_eqb (f n) x (λ e. omega (arith, h n (omega arith))), occurrences_behind f n m x (λ j k. h j (omega arith)) g)
 
-pub summable : {f : ℕ → ℕ} {n m : ℕ} {l : List ℕ} → Occurrences f n l → n ≤ 4096 → m ≤ length l → ((j : ℕ) → j < n → f j < m) → Summable m l
-summable {f} {n} {m} {l} t h g below = record {
-  inside = g;
-  each = λ x. omega (arith, counter_le t x);
-  behind = λ x k. t.each x ∙ occurrences_behind f n m x below k;
-  most = rw (sum_of_counters t (λ j k. omega (arith, below j k))) (log_sum_most f n n h);
-}
+-- ---- the first m counters of n numbers that are all below m, l: they can be summed, and their sum is that of all
+log_sum_append : (a b : List ℕ) → log_sum (a ++ b) ≡ log_sum a + log_sum b
+unfolding log_sum
+log_sum_append [] b = sym (zero-add (log_sum b))
+log_sum_append (c ∷ a) b = rw (log_sum_append a b) (omega arith)
 
--- ---- after x of m turns over all counters, from l₀, with the sum so far
-pub record ClearedTo (m : ℕ) (l₀ : List ℕ) (x : ℕ) (l : List ℕ) (s : ℕ) : Type 0 where
-  pub turns : x ≤ m
-  pub long : length l ≡ length l₀
-  pub before : (y : ℕ) → y < x → entry l y ≡ 0
-  pub behind : (y : ℕ) → x ≤ y → entry l y ≡ entry l₀ y
-  pub sum : s + log_sum l ≡ log_sum l₀
+pub log_sum_by : (l : List ℕ) → sum_by (λ c. c * L c) l ≡ log_sum l
+unfolding log_sum
+log_sum_by [] = refl
+log_sum_by (c ∷ l) = sum_by-cons (λ c. c * L c) c l ∙ rw (log_sum_by l)
 
-module _ {m : ℕ} {l₀ : List ℕ} {x : ℕ} {l : List ℕ} {s : ℕ} (t : ClearedTo m l₀ x l s) where
-  pub cleared_more : {p : ℕ} → x < m → x < length l → p ≡ get_or l x 0 * L (get_or l x 0) → ClearedTo m l₀ (x + 1) (set l x 0) (s + p)
-  cleared_more h g e = record {
-    turns = omega arith;
-    long = simp length-set t.long;
-    before = λ y k. ⊎_elim
-        (λ (p : y ≡ x). rw (p, get_or-set_same l x 0 0 g))
-        (λ (p : y < x). rw (get_or-set_other l x y 0 0 (λ q. omega arith)) (t.before y p))
-        (eq-or-lt_of_le {n = y} {m = x} (omega arith));
-    behind = λ y k. rw (get_or-set_other l x y 0 0 (λ q. omega arith)) (t.behind y (omega arith));
-    sum = omega (arith, e, log_sum_less l x g, t.sum);
+zero_replicate : (n x : ℕ) → entry (replicate n 0) x ≡ 0
+zero_replicate zero x = refl
+zero_replicate (suc n) zero = refl
+zero_replicate (suc n) (suc x) = zero_replicate n x
+
+zero_append : (a b : List ℕ) → ((x : ℕ) → entry a x ≡ 0) → ((x : ℕ) → entry b x ≡ 0) → (x : ℕ) → entry (a ++ b) x ≡ 0
+zero_append [] b f g x = g x
+zero_append (c ∷ a) b f g zero = f 0
+zero_append (c ∷ a) b f g (suc x) = zero_append a b (λ y. f (suc y)) g x
+
+module _ {f : ℕ → ℕ} {n m : ℕ} {l : List ℕ} (t : Occurrences f n l) (inside : m ≤ length l) (below : (j : ℕ) → j < n → f j < m) where
+  behind : (x : ℕ) → entry (drop m l) x ≡ 0
+  behind x = get_or-drop m l x 0 ∙ t.each (m + x) ∙ occurrences_behind f n m (m + x) below (omega arith)
+
+  pub front_value : log_sum (take m l) ≡ log_sum (histogram eqb f n n)
+  front_value =
+      let e : log_sum (take m l ++ drop m l) ≡ log_sum (take m l) + log_sum (drop m l) = log_sum_append (take m l) (drop m l) in
+      omega (arith, rw (take-append-drop m l) at e, log_sum_zero (drop m l) behind, sum_of_counters t (λ j k. omega (arith, below j k)))
+
+  pub front_summable : n ≤ 4096 → Summable (take m l)
+  front_summable h = record {
+    each = let small : ℕ → Type 0 = λ c. c ≤ 4096 in All-take small m l (All-from_get_or small l 0 (λ i k. omega (arith, counter_le t i)));
+    most = rw front_value (log_sum_most f n n h);
   }
 
-  -- all are zero at the end, and the sum is complete
-  pub cleared_all : Summable m l₀ → x ≡ m → AllZero l
-  cleared_all u e = record {
-    each = λ y. cases (ltb y x) (λ g. t.before y (ltb-true y x g)) (λ g. t.behind y (ltb-false y x g) ∙ u.behind y (omega (arith, ltb-false y x g)));
-  }
-
-  pub sum_all : Summable m l₀ → x ≡ m → s ≡ log_sum l₀
-  sum_all u e = omega (arith, t.sum, log_sum_zero l (cleared_all u e).each)
+  pub front_cleared : AllZero (replicate (length (take m l)) 0 ++ drop m l)
+  front_cleared = record { each = zero_append _ _ (zero_replicate _) behind }

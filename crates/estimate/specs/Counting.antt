@@ -1,9 +1,9 @@
 -- What the counting asks of a plane, and what the lent counters hold meanwhile.
-use Rattle.std.specs.Prelude.{◌≡◌, Bool, cond, List, ℕ, ◌+◌, ◌*◌, ◌%◌, ◌≤◌, ◌<◌, ltb, eqb, ℤ, pos, ◌+ℤ◌, length, get_or}
+use Rattle.std.specs.Prelude.{◌≡◌, cond, List, ℕ, ◌+◌, ◌*◌, ◌%◌, ◌≤◌, ◌<◌, ltb, eqb, ℤ, pos, ◌+ℤ◌, length, get_or, All}
 use Rattle.integers.specs.Parts.{pos_part}
 use Rattle.integers.specs.Lists.{AllIn}
-use Rattle.stage.specs.Logarithm.{Logarithms}
 use Rattle.stage.specs.Estimate.{occurrences, log_sum}
+use Rattle.estimate.specs.declared.residual.Sample.{Sample}
 
 -- the samples lie in a range that is at most d wide
 pub record RangeWithin (d : ℕ) (a : List ℤ) : Type 0 where
@@ -21,11 +21,11 @@ pub record Countable (w d : ℕ) (a : List ℤ) : Type 0 where
   pub small : d ≤ 262144
   pub range : RangeWithin d a
 
--- an index inside the plane, and whether it lies in the first row and in the first column
-pub record Inside (w : ℕ) (a : List ℤ) (i : ℕ) (top start : Bool) : Type 0 where
-  pub inside : i < length a
-  pub row : top ≡ ltb i w
-  pub column : start ≡ eqb (i % w) 0
+-- a sample inside the plane, and whether it lies in the first row and in the first column
+pub record Inside (w : ℕ) (a : List ℤ) (x : Sample) : Type 0 where
+  pub inside : x.index < length a
+  pub row : x.top ≡ ltb x.index w
+  pub column : x.start ≡ eqb (x.index % w) 0
 
 -- The counter of a residual z is z + d: 2 × d + 1 counters hold all.
 unfoldable pub bin : ℕ → ℤ → ℕ
@@ -54,11 +54,9 @@ pub record Occurrences (f : ℕ → ℕ) (n : ℕ) (l : List ℕ) : Type 0 where
 pub record Remaining (f : ℕ → ℕ) (n m : ℕ) (l : List ℕ) : Type 0 where
   pub each : (x : ℕ) → entry l x ≡ cond (eqb (occurrences eqb f m x) 0) (occurrences eqb f n x) 0
 
--- m counters that can be summed; all behind them are zero
-pub record Summable (m : ℕ) (l : List ℕ) : Type 0 where
-  pub inside : m ≤ length l
-  pub each : (x : ℕ) → entry l x ≤ 4096
-  pub behind : (x : ℕ) → m ≤ x → entry l x ≡ 0
+-- counters that can be summed
+pub record Summable (l : List ℕ) : Type 0 where
+  pub each : All (λ c. c ≤ 4096) l
   pub most : log_sum l ≤ 3145728
 
 -- enough counters for residuals within −d .. d, all zero
@@ -66,11 +64,10 @@ pub record Counters (d : ℕ) (l : List ℕ) : Type 0 where
   pub enough : 2 * d < length l
   pub zero : AllZero l
 
--- a plane that is to be counted, with the table of logarithms
-pub record PlaneReady (w d : ℕ) (a : List ℤ) (l table : List ℕ) : Type 0 where
+-- a plane that is to be counted
+pub record PlaneReady (w d : ℕ) (a : List ℤ) (l : List ℕ) : Type 0 where
   pub plane : Countable w d a
   pub counters : Counters d l
-  pub logarithms : Logarithms table
 
 -- An estimate e of one plane is answered, and the counters are zero again; the bound lets three be added.
 pub record PlaneFound (d e r : ℕ) (l : List ℕ) : Type 0 where

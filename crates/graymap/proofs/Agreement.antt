@@ -9,15 +9,16 @@ use lib.Dec.{eqb}
 use lib.IntN.{ℤ}
 use lib.ListN.{length}
 use borrow.Author.Tests.{eqb-true, ne_eqb}
-use Rattle.stage.specs.declared.Depths.{Depths}
+use Rattle.stage.specs.Settings.{Depths}
 use Rattle.stage.specs.declared.Kind.{Kind}
 use Rattle.stage.specs.declared.Kind.TheVariants.{Graymap}
 use Rattle.stage.specs.declared.Range.{Range}
+use Rattle.stage.specs.declared.Size.{Size}
 use Rattle.stage.specs.Answers.{Reply, done, refused, Test, ◌else◌, refusal, reply_by, number, Outcome}
 use Rattle.stage.specs.Ranges.{extent, within_range}
 use Rattle.stage.specs.Pixmap.{HeaderText, header_text, file_tests, file_of}
 use Rattle.stage.specs.Grammar.{IsFile}
-use Rattle.stage.specs.Graymap.{plane_range, plane_tests, Size, raster_plane, graymap_read}
+use Rattle.stage.specs.Graymap.{plane_range, plane_tests, raster_plane, graymap_read}
 use Rattle.stage.proofs.Answers.{refusal_holds, holds_refusal, refusal_past, refusal_first, holds_append, done_refusal}
 use Rattle.pixmap.proofs.Refusals.{is_taken}
 use Rattle.pixmap.proofs.RefusedFiles.{reply_number}
@@ -50,7 +51,7 @@ module _ (d : Depths) (t n : ℕ) (file : List ℕ) (lent : List ℤ) (z : refus
   last = (eqb (length lent) (text.width * text.height) else 8) ∷ (within_range r (raster_plane r text.rest) else 12) ∷ []
 
   is_file_read : read_file r file lent ≡ graymap_read d t n file lent
-  is_file_read = file_read d t n file lent {k = 0} (sym z) refl narrow
+  is_file_read = file_read d t n file lent (sym z) narrow
 
   reply_is : reply_by (refusal (tests ++ last)) size ≡ (graymap_read d t n file lent).reply
   reply_is = ap (λ (o : Outcome Size (List ℤ)). o.reply) is_file_read

@@ -1,35 +1,41 @@
 -- The call that reads, test after test.
 use mathlib.Core.Path.{◌≡◌, sym, ap, ap₂, ◌∙◌}
-use mathlib.Core.Bool.{true}
+use mathlib.Core.Bool.{Bool, true, cond}
 use mathlib.Core.List.{List, [], ◌∷◌, ◌++◌, map}
-use Prim.Native.Nat.{ℕ, ◌*◌, ◌≤◌, ◌<◌}
+use Prim.Native.Nat.{ℕ, ◌+◌, ◌*◌, ◌≤◌}
 use native.Mathlib.Omega.{arith}
 use lib.Dec.{leb, eqb, le→leb}
 use lib.IntN.{ℤ}
-use lib.ListN.{length, drop}
-use borrow.Author.Tests.{eqb-true, eq-eqb, ne_eqb, lt-leb}
-use Rattle.stage.specs.declared.Depths.{Depths}
+use lib.ListN.{length}
+use borrow.Author.Tests.{eqb-true}
+use Rattle.std.specs.Prelude.{Ok, Err}
+use Rattle.std.specs.Borrow.{Bor}
+use Rattle.integers.proofs.Booleans.{true_holds}
+use Rattle.stage.specs.Settings.{Depths}
 use Rattle.stage.specs.declared.Kind.TheVariants.{Graymap}
 use Rattle.stage.specs.declared.Range.{Range}
-use Rattle.stage.specs.Answers.{done, refused, Test, ◌else◌, refusal}
+use Rattle.stage.specs.declared.Size.{Size}
+use Rattle.stage.specs.declared.Refusal.{Refusal}
+use Rattle.stage.specs.declared.Refusal.TheVariants.{Plane, Wide, Unreached}
+use Rattle.stage.specs.Answers.{Test, ◌else◌, refusal, number_of, outcome_of}
 use Rattle.stage.specs.Ranges.{extent, within_range}
 use Rattle.stage.specs.Raster.{sample_bytes, raster_samples}
 use Rattle.stage.specs.Pixmap.{HeaderText, header_text, file_tests}
-use Rattle.stage.specs.Graymap.{plane_range, from_lowest, plane_tests, Size, raster_plane, graymap_read}
-use Rattle.stage.proofs.Answers.{Holds, refusal_holds, refusal_past, refusal_first, outcome_done, outcome_refused, outcome_past}
+use Rattle.stage.specs.Graymap.{plane_range, from_lowest, plane_tests, raster_plane, graymap_read}
+use Rattle.stage.proofs.Answers.{Holds, refusal_holds, refusal_past, refusal_first, holds_append, number_positive, err_outcome, ok_outcome, outcome_past}
 use Rattle.raster.specs.Samples.{highest, Filled}
 use Rattle.raster.proofs.Pairs.{samples_long}
-use Rattle.pixmap.specs.declared.Parsed.{Parsed}
-use Rattle.pixmap.specs.Parsed.{ParsedOf}
-use Rattle.pixmap.proofs.Refusals.{is_sized, is_taken, is_long, area}
+use Rattle.pixmap.specs.declared.header_text.Parsed.{Parsed}
+use Rattle.pixmap.specs.Parsed.{Accepted}
+use Rattle.pixmap.proofs.Tested.{tested, held_by, past_failed}
+use Rattle.pixmap.proofs.Refusals.{is_taken, is_long}
 use Rattle.graymap.specs.Parts.{read_file}
-use Rattle.graymap.proofs.Samples.{samples_within, samples_outside, plane_filled}
-use Rattle.graymap.proofs.PlanesWritten.{Known, known}
+use Rattle.graymap.proofs.Samples.{samples_test, plane_filled}
 
 -- ---- a file of a plane whose range is r, parsed
-module _ (r : Range) {file : List ℕ} (lent : List ℤ) {p : Parsed} (s : ParsedOf (Graymap (extent r)) file p) where
+module _ (r : Range) (file : Bor (List ℕ)) (lent : List ℤ) (p : Parsed) (s : Accepted (Graymap (extent r)) file p) where
   abbrev T : HeaderText
-  T = header_text 53 file
+  T = header_text 53 file.now
 
   abbrev size : Size
   size = record { width = T.width; height = T.height }
@@ -37,58 +43,58 @@ module _ (r : Range) {file : List ℕ} (lent : List ℤ) {p : Parsed} (s : Parse
   abbrev tests : List Test
   tests = file_tests (Graymap (extent r)) T
 
+  -- the last two tests
   abbrev last : List Test
   last = (eqb (length lent) (T.width * T.height) else 8) ∷ (within_range r (raster_plane r T.rest) else 12) ∷ []
 
-  pub file_refused : (p.refusal ≡ 0 → ⊥) → record { reply = refused p.refusal; memory = lent } ≡ read_file r file lent
-  file_refused g = sym (outcome_refused size (raster_plane r T.rest) lent (tests ++ last) p.refusal (refusal_first tests last p.refusal s.refusal_is g) g)
+  abbrev samples : List ℕ
+  samples = raster_samples (extent r) p.raster.now
 
-  module _ (z : p.refusal ≡ 0) where
-    hold : Holds tests
-    hold = refusal_holds tests (tt, (tt, (tt, (tt, tt)))) (sym s.refusal_is ∙ z)
+  hold : Holds tests
+  hold = refusal_holds tests (tt, (tt, (tt, (tt, tt)))) s.passes
 
-    same_area : T.width * T.height ≡ p.width * p.height
-    same_area = rw (s.width_is z, s.height_is z)
+  same_area : p.width * p.height ≡ T.width * T.height
+  same_area = rw (s.width_is, s.height_is)
 
-    pub small_area : p.width * p.height ≤ 67108864
-    small_area = omega (arith, same_area, area T.width T.height (is_sized (Graymap (extent r)) T (sym s.refusal_is ∙ z)))
+  samples_are : samples ≡ raster_samples (extent r) T.rest
+  samples_are = ap (raster_samples (extent r)) s.raster_is.bytes_are
 
-    past : refusal (tests ++ last) ≡ refusal last
-    past = refusal_past tests last hold
+  -- the plane has the file's size
+  module _ (long : Ok (tt {0}) ≡ tested (eqb (length lent) (p.width * p.height)) Plane) where
+    length_is : eqb (length lent) (T.width * T.height) ≡ true
+    length_is = ap (eqb (length lent)) (sym same_area) ∙ held_by (eqb (length lent) (p.width * p.height)) Plane long
 
-    pub length_refused : (length lent ≡ p.width * p.height → ⊥) → record { reply = refused 8; memory = lent } ≡ read_file r file lent
-    length_refused g =
-        let b = ne_eqb (length lent) (T.width * T.height) (λ e. g (e ∙ same_area)) in
-        sym (outcome_refused size (raster_plane r T.rest) lent (tests ++ last) 8 (sym (past ∙ rw b)) (λ f. omega arith))
+    abbrev before : List Test
+    before = tests ++ (eqb (length lent) (T.width * T.height) else 8) ∷ []
 
-    module _ (e : length lent ≡ p.width * p.height) {rest : List ℕ} (rest_is : rest ≡ drop 1 (drop p.at file)) where
-      long : eqb (length lent) (T.width * T.height) ≡ true
-      long = eq-eqb (length lent) (T.width * T.height) (e ∙ sym same_area)
+    before_hold : Holds before
+    before_hold = (holds_append tests ((eqb (length lent) (T.width * T.height) else 8) ∷ [])).1 (hold, (true_holds length_is, tt))
 
-      samples_are : raster_samples (extent r) rest ≡ raster_samples (extent r) T.rest
-      samples_are = ap (raster_samples (extent r)) (rest_is ∙ s.rest_is)
+    -- as many samples as the plane has
+    pub samples_count : length samples ≡ length lent
+    samples_count =
+        let m = eqb-true T.maxval (extent r) (is_taken (Graymap (extent r)) T s.passes) in
+        let l : length T.rest ≡ sample_bytes T.maxval * (T.width * T.height) = is_long (Graymap (extent r)) T s.passes ∙ omega arith in
+        samples_long (extent r) (length lent) p.raster.now
+        (ap length s.raster_is.bytes_are ∙ l ∙ ap₂ (λ (x y : ℕ). sample_bytes x * y) m (sym (eqb-true (length lent) (T.width * T.height) length_is)))
 
-      -- as many samples as the plane has
-      pub samples_count : length (raster_samples (extent r) rest) ≡ length lent
-      samples_count =
-          let passes = sym s.refusal_is ∙ z in
-          let m = eqb-true T.maxval (extent r) (is_taken (Graymap (extent r)) T passes) in
-          let l : length T.rest ≡ sample_bytes T.maxval * (T.width * T.height) = is_long (Graymap (extent r)) T passes ∙ omega arith in
-          samples_long (extent r) (length lent) rest (ap length (rest_is ∙ s.rest_is) ∙ l ∙ ap₂ (λ (x y : ℕ). sample_bytes x * y) m (same_area ∙ sym e))
+    -- the last test
+    module _ (b : Bool) (hb : b ≡ leb (highest samples) (extent r)) where
+      test_is : b ≡ within_range r (raster_plane r T.rest)
+      test_is = hb ∙ ap (λ (l : List ℕ). leb (highest l) (extent r)) samples_are ∙ samples_test r (raster_samples (extent r) T.rest)
 
-      pub sample_refused : extent r < highest (raster_samples (extent r) rest) → record { reply = refused 12; memory = lent } ≡ read_file r file lent
-      sample_refused g =
-          let b = samples_outside r (raster_samples (extent r) T.rest) (rw samples_are at g) in
-          sym (outcome_refused size (raster_plane r T.rest) lent (tests ++ last) 12 (sym (past ∙ rw (long, b))) (λ f. omega arith))
+      pub sample_refused : (e : Refusal) → Err e ≡ tested b Unreached → outcome_of {A = Size} (Err e) lent ≡ read_file r file.now lent
+      sample_refused e h = err_outcome (tests ++ last) size (raster_plane r T.rest) lent e (past_failed before [] before_hold (within_range r (raster_plane r T.rest)) Unreached e (rw test_is at h))
 
-      pub plane_restored : highest (raster_samples (extent r) rest) ≤ extent r → {after : List ℤ} → Filled (raster_samples (extent r) rest) 1 0 r.below lent after
-          → record { reply = done (record { width = p.width; height = p.height }); memory = after } ≡ read_file r file lent
-      plane_restored g {after} f =
-          let b = samples_within r (raster_samples (extent r) T.rest) (rw samples_are at g) in
-          ap₂ (λ (v : Size) (m : List ℤ). record { reply = done v; memory = m })
-          (ap₂ (λ (w h : ℕ). record { width = w; height = h }) (s.width_is z) (s.height_is z))
-          (plane_filled r (raster_samples (extent r) rest) f samples_count ∙ ap (λ (l : List ℕ). map (from_lowest r) l) samples_are)
-          ∙ sym (outcome_done size (raster_plane r T.rest) lent (tests ++ last) (past ∙ rw (long, b)))
+      pub plane_restored : Ok (tt {0}) ≡ tested b Unreached → {after : List ℤ} → Filled samples 1 0 r.below lent after
+          → outcome_of (Ok (record { width = p.width; height = p.height })) after ≡ read_file r file.now lent
+      plane_restored h {after} f =
+          let w = sym test_is ∙ held_by b Unreached h in
+          ap₂ (λ (v : Size) (m : List ℤ). outcome_of (Ok v) m)
+          (ap₂ (λ (x y : ℕ). record { width = x; height = y }) s.width_is s.height_is)
+          (plane_filled r samples f samples_count ∙ ap (λ (l : List ℕ). map (from_lowest r) l) samples_are)
+          ∙ ok_outcome (tests ++ last) size (raster_plane r T.rest) lent
+          (sym (refusal_past before ((within_range r (raster_plane r T.rest) else 12) ∷ []) before_hold ∙ ap (λ (t : Bool). cond t 0 12) w))
 
 -- ---- what comes before the file
 module _ (d : Depths) (t n : ℕ) (file : List ℕ) (lent : List ℤ) where
@@ -110,21 +116,20 @@ module _ (d : Depths) (t n : ℕ) (file : List ℕ) (lent : List ℤ) where
   abbrev file_and_last : List Test
   file_and_last = file_tests (Graymap (extent range)) text ++ (eqb (length lent) (text.width * text.height) else 8) ∷ (within_range range plane else 12) ∷ []
 
-  pub plane_refused : (k : ℕ) → k ≡ refusal (plane_tests d t n) → (k ≡ 0 → ⊥) → record { reply = refused k; memory = lent } ≡ graymap_read d t n file lent
+  pub plane_refused : (e : Refusal) → number_of e ≡ refusal (plane_tests d t n) → outcome_of {A = Size} (Err e) lent ≡ graymap_read d t n file lent
   unfolding graymap_read
-  plane_refused k e g = sym (outcome_refused answer plane lent (plane_tests d t n ++ wide_test ∷ file_and_last) k (refusal_first (plane_tests d t n) (wide_test ∷ file_and_last) k e g) g)
+  plane_refused e h =
+      err_outcome (plane_tests d t n ++ wide_test ∷ file_and_last) answer plane lent e (refusal_first (plane_tests d t n) (wide_test ∷ file_and_last) (number_of e) h (number_positive e))
 
-  module _ {k : ℕ} (e : k ≡ refusal (plane_tests d t n)) (z : k ≡ 0) where
+  module _ (e : 0 ≡ refusal (plane_tests d t n)) where
     first : Holds (plane_tests d t n)
-    first = refusal_holds (plane_tests d t n) (tt, (tt, tt)) (sym e ∙ z)
+    first = refusal_holds (plane_tests d t n) (tt, (tt, tt)) (sym e)
 
-    pub plane_known : Known d t
-    plane_known = known d t n first.0 first.1.0
-
-    pub wide_refused : 65535 < extent range → record { reply = refused 13; memory = lent } ≡ graymap_read d t n file lent
+    pub wide_refused : (r : Range) → r ≡ range → (x : Refusal) → Err x ≡ tested (leb (r.below + r.above) 65535) Wide → outcome_of {A = Size} (Err x) lent ≡ graymap_read d t n file lent
     unfolding graymap_read
-    wide_refused w =
-        sym (outcome_refused answer plane lent (plane_tests d t n ++ wide_test ∷ file_and_last) 13 (sym (refusal_past (plane_tests d t n) (wide_test ∷ file_and_last) first ∙ rw (lt-leb (extent range) 65535 w))) (λ f. omega arith))
+    wide_refused r s x h =
+        let g = ap (λ (v : Range). tested (leb (extent v) 65535) Wide) s in
+        err_outcome (plane_tests d t n ++ wide_test ∷ file_and_last) answer plane lent x (past_failed (plane_tests d t n) file_and_last first (leb (extent range) 65535) Wide x (h ∙ g))
 
     pub file_read : extent range ≤ 65535 → read_file range file lent ≡ graymap_read d t n file lent
     unfolding graymap_read

@@ -8,15 +8,16 @@ use lib.IntN.{ℤ}
 use lib.ListN.{length, get_or, length-map}
 use borrow.Author.Tests.{eqb-true, eq-eqb}
 use Rattle.integers.proofs.Booleans.{holds_true, true_holds}
-use Rattle.stage.specs.declared.Depths.{Depths}
+use Rattle.stage.specs.Settings.{Depths}
 use Rattle.stage.specs.declared.Range.{Range}
+use Rattle.stage.specs.declared.Size.{Size}
 use Rattle.stage.specs.Answers.{done, Test}
 use Rattle.stage.specs.Settings.{settings_of}
 use Rattle.stage.specs.Ranges.{extent}
 use Rattle.stage.specs.Raster.{sample_bytes, raster_samples, samples_raster}
 use Rattle.stage.specs.Pixmap.{HeaderText, header_text}
 use Rattle.stage.specs.Grammar.{IsField, IsHeader}
-use Rattle.stage.specs.Graymap.{plane_range, less_lowest, from_lowest, written_header, graymap_of, write_tests, graymap_written, Size, raster_plane, read_tests, graymap_read}
+use Rattle.stage.specs.Graymap.{plane_range, less_lowest, from_lowest, written_header, graymap_of, write_tests, graymap_written, raster_plane, read_tests, graymap_read}
 use Rattle.stage.proofs.Answers.{Holds, Numbered, holds_refusal, outcome_done}
 use Rattle.text.proofs.Numerals.{numeral_few}
 use Rattle.raster.proofs.Pairs.{samples_long, raster_back}

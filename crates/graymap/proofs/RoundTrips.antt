@@ -12,12 +12,13 @@ use Rattle.integers.proofs.Booleans.{holds_true, true_holds}
 use Rattle.integers.proofs.Lists.{all_within_iff}
 use Rattle.stage.specs.declared.Range.{Range}
 use Rattle.stage.specs.declared.Settings.{Settings}
+use Rattle.stage.specs.declared.Size.{Size}
 use Rattle.stage.specs.Answers.{done, Test, refusal, Outcome, outcome}
 use Rattle.stage.specs.Settings.{pixels}
 use Rattle.stage.specs.Ranges.{extent, within_range}
 use Rattle.stage.specs.Raster.{sample_bytes, samples_raster}
 use Rattle.stage.specs.Pixmap.{HeaderText, header_text}
-use Rattle.stage.specs.Graymap.{plane_range, less_lowest, from_lowest, graymap_of, write_tests, graymap_written, Size, raster_plane, read_tests, graymap_read}
+use Rattle.stage.specs.Graymap.{plane_range, less_lowest, from_lowest, graymap_of, write_tests, graymap_written, raster_plane, read_tests, graymap_read}
 use Rattle.stage.proofs.Answers.{Holds, Numbered, holds_refusal, outcome_done}
 use Rattle.raster.proofs.Pairs.{raster_long, samples_back}
 use Rattle.graymap.specs.Parts.{with_file}

@@ -1,11 +1,13 @@
 -- The samples of a raster as the numbers of a plane: their range, and a plane that was filled with them.
 use mathlib.Core.Path.{◌≡◌, refl, sym, ap, ap₂, ◌∙◌}
-use mathlib.Core.Bool.{true, false, ◌&&◌}
+use mathlib.Core.Bool.{Bool, true, false, ◌&&◌, true≢false}
 use mathlib.Core.List.{List, [], ◌∷◌, map}
 use Prim.Native.Nat.{ℕ, zero, suc, ◌+◌, ◌*◌, ◌≤◌, ◌<◌}
 use native.Mathlib.Omega.{arith}
+use lib.Dec.{leb, leb→le}
 use lib.IntN.{ℤ}
 use lib.ListN.{length, get_or, length-map}
+use borrow.Author.Tests.{le-leb}
 use Rattle.integers.specs.Parts.{In, within}
 use Rattle.integers.specs.Lists.{at, all_within}
 use Rattle.integers.proofs.Booleans.{holds_true, true_holds, fails_false, both_true}
@@ -25,7 +27,7 @@ module _ (r : Range) where
   in_low n h = omega (arith, simp count at (simp flat at (lin_in h)))
 
   -- a sample lies in the range exactly where it is at most maxval
-  pub samples_within : (l : List ℕ) → highest l ≤ extent r → within_range r (map (from_lowest r) l) ≡ true
+  samples_within : (l : List ℕ) → highest l ≤ extent r → within_range r (map (from_lowest r) l) ≡ true
   unfolding highest all_within
   samples_within [] h = refl
   samples_within (n ∷ l) h =
@@ -38,8 +40,13 @@ module _ (r : Range) where
       let b = both_true (within r.below r.above (from_lowest r n)) (within_range r (map (from_lowest r) l)) h in
       omega (arith, in_low n ((within_iff r.below r.above (from_lowest r n)).0 (true_holds b.0)), within_samples l b.1)
 
-  pub samples_outside : (l : List ℕ) → extent r < highest l → within_range r (map (from_lowest r) l) ≡ false
-  samples_outside l h = fails_false (within_range r (map (from_lowest r) l)) (λ t. omega (arith, within_samples l (holds_true (within_range r (map (from_lowest r) l)) t)))
+  -- so the largest tells whether all lie in it
+  pub samples_test : (l : List ℕ) → leb (highest l) (extent r) ≡ within_range r (map (from_lowest r) l)
+  samples_test l = by (within_range r (map (from_lowest r) l)) refl
+    where
+      by : (t : Bool) → within_range r (map (from_lowest r) l) ≡ t → leb (highest l) (extent r) ≡ t
+      by true e = le-leb (highest l) (extent r) (within_samples l e)
+      by false e = fails_false (leb (highest l) (extent r)) (λ t. true≢false (sym (samples_within l (leb→le (highest l) (extent r) t)) ∙ e))
 
   at_map : (l : List ℕ) (k : ℕ) → k < length l → at (map (from_lowest r) l) k ≡ from_lowest r (get_or l k 0)
   at_map [] k h = absurd (omega arith)

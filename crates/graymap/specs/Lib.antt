@@ -1,3 +1,2 @@
-pub mod Replies
 pub mod Parts
 pub mod RoundTrips

@@ -3,11 +3,12 @@ use Rattle.std.specs.Prelude.{◌≡◌, true, List, [], ◌∷◌, ◌++◌, �
 use Rattle.stage.specs.declared.Kind.TheVariants.{Graymap}
 use Rattle.stage.specs.declared.Range.{Range}
 use Rattle.stage.specs.declared.Settings.{Settings}
+use Rattle.stage.specs.declared.Size.{Size}
 use Rattle.stage.specs.Answers.{Test, ◌else◌, Outcome, outcome, sized}
 use Rattle.stage.specs.Settings.{pixels}
 use Rattle.stage.specs.Ranges.{extent, within_range}
 use Rattle.stage.specs.Pixmap.{header_text, file_tests}
-use Rattle.stage.specs.Graymap.{plane_tests, graymap_of, Size, raster_plane}
+use Rattle.stage.specs.Graymap.{plane_tests, graymap_of, raster_plane}
 
 -- the first tests of writing
 abbrev pub size_tests : (s : Settings) (n count : ℕ) → List Test

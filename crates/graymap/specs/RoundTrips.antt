@@ -1,11 +1,12 @@
 -- What is proved of graymaps that are written and read (02, request 4). d stands for the depths, t for the transform's number and n for the plane's.
 use Rattle.std.specs.Prelude.{◌≡◌, true, ◌↔◌, List, ℕ, ◌+◌, ◌*◌, ◌≤◌, T, ℤ, length, take, get_or}
 use Rattle.stage.specs.declared.Bands.{Bands}
-use Rattle.stage.specs.declared.Depths.{Depths}
+use Rattle.stage.specs.Settings.{Depths}
 use Rattle.stage.specs.declared.Form.TheVariants.{Plain}
 use Rattle.stage.specs.declared.Kind.TheVariants.{Graymap}
 use Rattle.stage.specs.declared.Range.{Range}
 use Rattle.stage.specs.declared.Settings.{Settings}
+use Rattle.stage.specs.declared.Size.{Size}
 use Rattle.stage.specs.Answers.{done, refused, refusal, between, sized}
 use Rattle.stage.specs.Settings.{settings_of, pixels}
 use Rattle.stage.specs.Planes.{Planes, get}
@@ -15,7 +16,7 @@ use Rattle.stage.specs.Pixmap.{header_text, file_of}
 use Rattle.stage.specs.Grammar.{IsFile}
 use Rattle.stage.specs.Transform.{forward}
 use Rattle.stage.specs.Demand3.{accepted}
-use Rattle.stage.specs.Graymap.{plane_of, plane_range, plane_tests, written_header, graymap_of, graymap_written, Size, graymap_read}
+use Rattle.stage.specs.Graymap.{plane_of, plane_range, plane_tests, written_header, graymap_of, graymap_written, graymap_read}
 use Rattle.graymap.specs.Parts.{with_file}
 
 -- "Reading what we write restores the plane", to any plane of its size, and answers its width and height.

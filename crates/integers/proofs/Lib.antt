@@ -9,5 +9,4 @@ pub mod FloorModulo
 pub mod Lists
 pub mod Slices
 pub mod Changes
-pub mod Copies
 pub mod Tests

@@ -3,7 +3,7 @@ use mathlib.Core.Path.{◌≡◌, refl, sym, ap, ◌∙◌}
 use mathlib.Core.Logic.{◌↔◌}
 use Prim.Native.Nat.{ℕ, ◌+◌, ◌^◌, ◌≤◌, ◌<◌, zero-le, suc-le-suc}
 use native.Mathlib.Omega.{arith}
-use native.Mathlib.Nat.{div-le_self, le_trans, le-suc}
+use native.Mathlib.Nat.{div-le_self, le_trans}
 use lib.Dec.{T, ltb, leb, ltb→lt, leb→le, le→leb, lit≤}
 use lib.IntN.{ℤ, pos, negsuc, ◌+ℤ◌, ◌-ℤ◌, neg_ℤ}
 use lib.Signed.{non_neg}
@@ -39,10 +39,6 @@ pub in_fits : {k l : ℕ} {z : ℤ} {w : Width} → In k l z → k ≤ 2 ^ hbits
 in_fits {z = pos n} x p q = record { sfits = le_trans (suc-le-suc x.high) q }
 in_fits {z = negsuc n} x p q = record { sfits = le_trans x.low p }
 
-pub fits_in : {z : ℤ} (w : Width) → SFits w z → In (2 ^ hbits w) (2 ^ hbits w) z
-fits_in {z = pos n} w x = record { low = zero-le; high = le_trans (le-suc n) x.sfits }
-fits_in {z = negsuc n} w x = record { low = x.sfits; high = zero-le }
-
 pub sfits_shr : {z : ℤ} {w : Width} (d : ℕ) → SFits w z → SFits w (floor_div z d)
 sfits_shr {z = pos n} d x = record { sfits = le_trans (suc-le-suc (div-le_self n d)) x.sfits }
 sfits_shr {z = negsuc n} d x = record { sfits = le_trans (suc-le-suc (div-le_self n d)) x.sfits }
@@ -72,10 +68,6 @@ nonneg_holds (negsuc n) e = absurd (omega arith)
 pub nonneg_is : (z : ℤ) → neg_part z ≡ 0 → pos (pos_part z) ≡ z
 nonneg_is (pos n) e = refl
 nonneg_is (negsuc n) e = absurd (omega arith)
-
-pub nonneg_by : (z : ℤ) → neg_part z ≤ pos_part z → neg_part z ≡ 0
-nonneg_by (pos n) h = refl
-nonneg_by (negsuc n) h = absurd (omega arith)
 
 -- ---- the test of a range
 pub within_iff : (l h : ℕ) (z : ℤ) → T (within l h z) ↔ In l h z

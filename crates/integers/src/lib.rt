@@ -15,16 +15,15 @@ pub fn is_within(z: i32, below: u32, above: u32) -> bool
     (low <= z) & (z <= high)
 }
 
-// Every number of a plane. The loop has one way out and `&` runs both sides, so that it vectorises.
+// Every number of a plane. The loop has one way out and `&` runs both sides, so that it vectorises. A fold was tried here and below: of signed
+// numbers its answer does not reach the goal.
 pub fn all_within(plane: &[i32], below: u32, above: u32) -> bool
     requires { (below ≤ 1073741824) × (above ≤ 1073741824) }
     ensures { result ≡ all_within below above plane.now }
 {
     let mut inside = true;
-    let mut i = 0;
-    while i < plane.len() {
-        inside = inside & is_within(plane[i], below, above);
-        i += 1;
+    for z in plane {
+        inside &= is_within(*z, below, above);
     }
     inside
 }
@@ -35,10 +34,8 @@ pub fn all_fit(plane: &[i32], bits: u32) -> bool
     ensures { result ≡ all_within 0 (2 ^ bits - 1) plane.now }
 {
     let mut union = 0;
-    let mut i = 0;
-    while i < plane.len() {
-        union = union | plane[i];
-        i += 1;
+    for z in plane {
+        union |= *z;
     }
     (union >> bits) == 0
 }

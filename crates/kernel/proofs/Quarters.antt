@@ -4,7 +4,7 @@ use Rattle.integers.specs.Parts.{floor_div}
 use Rattle.integers.proofs.Parts.{add_difference, neg_parts}
 use Rattle.integers.proofs.Linear.{flat, count, eq_lin}
 use Rattle.integers.proofs.FloorDivision.{floor_div_low, floor_div_high, floor_div_is, floor_div_out}
-use Rattle.kernel.specs.Pass.{made}
+use Rattle.kernel.specs.Pass.{FourfoldAdd, FourfoldSubtract, QuarterAdd, QuarterSubtract, made}
 
 -- a quarter subtracted is a quarter of the negative rounded up
 quarter_up : (z : ℤ) → floor_div (neg_ℤ z +ℤ pos 3) 4 ≡ neg_ℤ (floor_div z 4)
@@ -16,15 +16,15 @@ quarter_up z =
     let result = neg_parts (floor_div z 4) in
     sym (floor_div_is (neg_ℤ z +ℤ pos 3) 4 (neg_ℤ (floor_div z 4)) (omega arith) (omega arith) (omega arith))
 
--- passes 5 and 7: C + (f + g) / 4
-pub quarter_added : (c f g : ℤ) → made 7 (made 5 c f) g ≡ c +ℤ floor_div (f +ℤ g) 4
+-- C + (f + g) / 4
+pub quarter_added : (c f g : ℤ) → made QuarterAdd (made FourfoldAdd c f) g ≡ c +ℤ floor_div (f +ℤ g) 4
 unfolding made
 quarter_added c f g =
     let e : pos 4 *ℤ c +ℤ f +ℤ g ≡ pos 4 *ℤ c +ℤ (f +ℤ g) = eq_lin (simp flat (simp count (omega arith))) in
     rw e (floor_div_out c (f +ℤ g) 4 (omega arith))
 
--- passes 6 and 8: C − (f + g) / 4
-pub quarter_subtracted : (c f g : ℤ) → made 8 (made 6 c f) g ≡ c -ℤ floor_div (f +ℤ g) 4
+-- C − (f + g) / 4
+pub quarter_subtracted : (c f g : ℤ) → made QuarterSubtract (made FourfoldSubtract c f) g ≡ c -ℤ floor_div (f +ℤ g) 4
 unfolding made
 quarter_subtracted c f g =
     let e : pos 4 *ℤ c -ℤ f -ℤ g +ℤ pos 3 ≡ pos 4 *ℤ c +ℤ (neg_ℤ (f +ℤ g) +ℤ pos 3) = eq_lin (simp flat (simp count (omega arith))) in

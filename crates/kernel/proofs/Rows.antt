@@ -3,10 +3,10 @@ use Rattle.std.proofs.Common.{◌≡◌, ℕ, zero, suc, ◌+◌, ◌-◌, ◌*�
 use Rattle.integers.proofs.Changes.{changed_as}
 use Rattle.stage.specs.Filter.{mean}
 use Rattle.kernel.specs.Pass.{KeptPass, applied}
-use Rattle.kernel.specs.Lifting.{MeanRow, MeanSegment, Lifted}
-use Rattle.kernel.specs.Window.{Indicator, window_mean}
+use Rattle.kernel.specs.Lifting.{MeanRow, Segment, Lifted}
+use Rattle.kernel.specs.Window.{MeanWindows, window_mean}
 use Rattle.kernel.specs.declared.centre.Centre.{Centre}
-use Rattle.kernel.proofs.Windows.{Neighbourhood}
+use Rattle.kernel.proofs.Windows.{Indicator, Neighbourhood}
 use Rattle.kernel.proofs.Borders.{window_mean_lem}
 use Rattle.kernel.proofs.Segments.{segment_rest, Progress, progress_join}
 
@@ -56,7 +56,7 @@ pub record RowNeighbourhood (centre : Centre) (w h y : ℕ) (p : KeptPass) (abov
 module _ {centre : Centre} {w h y : ℕ} {p : KeptPass} {above below : ℕ} {a c : List ℤ} (row : RowNeighbourhood centre w h y p above below a c) where
   module _ {left right i j : ℕ} (columns : Columns w left right i j) {m n : ℕ} (from : m ≡ y * w + i) (to : n ≡ y * w + j) {before : List ℤ} (u : Progress p (mean w h centre.weight a) (y * w) (y * w + w) m c before) where
     -- the columns before these are done, and these are ready
-    pub columns_ready : MeanSegment centre w left right above below p m n a before
+    pub columns_ready : Segment (λ k. MeanWindows centre w left right above below k (k + 1) a) p m n before
     columns_ready =
         let r = row.mean_row in
         let b = columns.bounds in
@@ -65,7 +65,9 @@ module _ {centre : Centre} {w h y : ℕ} {p : KeptPass} {above below : ℕ} {a c
         times_below below w (w * h - y * w - w) row.at_bottom.most
         (λ o. let q = mul-le-mul_right w (row.at_bottom.on o) in let e = add-mul y 2 w in omega arith) in
         let inside = mul-le-mul_right w r.row in
-        record { segment = segment_rest r.segment u.done (omega arith) (omega arith) (omega arith) (omega arith); weights = r.weights }
+        segment_rest r.segment u.done
+        (λ k x y. record { windows = record { inside = omega arith; samples = r.read }; weights = r.weights })
+        (omega arith) (omega arith) (omega arith)
 
     -- these are done too
     pub columns_done : {after : List ℤ} → Lifted p (window_mean w left right above below centre.weight a) m n before after → Progress p (mean w h centre.weight a) (y * w) (y * w + w) n c after

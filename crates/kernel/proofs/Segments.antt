@@ -6,15 +6,15 @@ use Rattle.integers.proofs.Ranges.{in_fits}
 use Rattle.integers.proofs.Changes.{changed_none, changed_more, changed_as, changed_join}
 use Rattle.kernel.specs.Pass.{KeptPass, applied}
 use Rattle.kernel.specs.Lifting.{Liftable, SegmentIn, Segment, Lifted}
-use Rattle.kernel.specs.Window.{WindowsIn, ValueIn}
+use Rattle.kernel.specs.Window.{SampleWindow, ValueIn}
 
--- whole rows
-pub rows_segment : {w h f : ℕ} {p : KeptPass} {i j : ℕ} {a c : List ℤ} (v : ℕ) → Liftable w h f p i j a c → Segment v 0 0 0 0 p (i * w) (j * w) a c
-rows_segment {w} v r =
+-- whole rows, sample by sample
+pub rows_segment : {w h f : ℕ} {p : KeptPass} {i j : ℕ} {a c : List ℤ} → Liftable w h f p i j a c → Segment (λ k. SampleWindow k a) p (i * w) (j * w) c
+rows_segment {w} r =
     let m = mul-le-mul_right w r.order in
     let n = mul-le-mul_right w r.rows in
     record {
-      windows = record { inside = omega arith; samples = r.read };
+      windows = λ k x y. record { inside = omega arith; samples = r.read };
       pass = r.pass;
       order = m;
       end = omega arith;
@@ -22,9 +22,10 @@ rows_segment {w} v r =
     }
 
 -- a part of a segment, with windows of its own, once what comes before it is done
-pub segment_rest : {v k l s t w left right above below : ℕ} {p : KeptPass} {i j m n : ℕ} {f : ℕ → ℤ → ℤ} {a c after : List ℤ} → Segment v k l s t p i j a c → Changed f i m c after → WindowsIn w left right above below m n (length a) → i ≤ m → m ≤ n → n ≤ j → Segment w left right above below p m n a after
-segment_rest b u inside g h l = record {
-  windows = record { inside = inside; samples = b.windows.samples };
+pub segment_rest : {own other : ℕ → Type 0} {p : KeptPass} {i j m n : ℕ} {f : ℕ → ℤ → ℤ} {c after : List ℤ} → Segment other p i j c → Changed f i m c after
+    → ((k : ℕ) → m ≤ k → k < n → own k) → i ≤ m → m ≤ n → n ≤ j → Segment own p m n after
+segment_rest b u windows g h l = record {
+  windows = windows;
   pass = b.pass;
   order = h;
   end = omega (arith, u.long);

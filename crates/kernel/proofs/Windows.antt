@@ -1,12 +1,27 @@
 -- The definition's window at column x and row y: the weight and the sample of each position.
-use Rattle.std.proofs.Common.{◌≡◌, ℕ, zero, suc, ◌+◌, ◌-◌, ◌*◌, ◌/◌, ◌%◌, ◌<◌, ◌≤◌, Bool, true, false, cond, ◌&&◌, eqb, leb, ◌⊎◌, List, get_or, ℤ, ap, ◌∙◌, ap₂, inl, inr, arith, eq-eqb, ne_eqb, le-leb}
+use Rattle.std.proofs.Common.{◌≡◌, ℕ, zero, suc, ◌+◌, ◌-◌, ◌*◌, ◌/◌, ◌%◌, ◌<◌, ◌≤◌, Bool, true, false, cond, ◌&&◌, eqb, leb, List, get_or, refl, ℤ, pos, ap, ◌∙◌, ap₂, arith, eq-eqb, ne_eqb, le-leb}
 use native.Mathlib.Decide.{dec_lt}
 use borrow.Author.Tests.{lt-leb}
+use lib.Dec.{ltb, ltb→lt, nltb→le}
+use Rattle.integers.proofs.Booleans.{true_holds, false_fails}
 use lib.Arith.{digits_div, digits_mod}
 use Rattle.integers.specs.Lists.{at}
 use Rattle.stage.specs.Filter.{weight, window_sample, mean, centre_weights, filtered}
 use Rattle.stage.proofs.Windows.{window_index_lem}
-use Rattle.kernel.specs.Window.{pointwise, Indicator}
+use Rattle.kernel.specs.Window.{one_if}
+
+-- r is 1 where n < m, and else 0
+pub record Indicator (n m r : ℕ) : Type 0 where
+  pub most : r ≤ 1
+  pub on : 1 ≤ r → n < m
+  pub off : n < m → 1 ≤ r
+
+pub indicator : (n m : ℕ) → Indicator n m (one_if (ltb n m))
+indicator n m = go (ltb n m) refl
+  where
+    go : (b : Bool) → ltb n m ≡ b → Indicator n m (one_if b)
+    go true e = record { most = omega arith; on = λ o. ltb→lt n m (true_holds e); off = λ l. omega arith }
+    go false e = record { most = omega arith; on = λ o. absurd (omega arith); off = λ l. absurd (omega (arith, nltb→le n m (false_fails e))) }
 
 -- e is 1 where column or row p, counted from 1, is one of n, and else 0
 record Present (p n e : ℕ) : Type 0 where
@@ -67,10 +82,13 @@ module _ {w h x y left right above below : ℕ} (centre : ℕ) (s : Neighbourhoo
 
 -- ---- the thirteen filters
 module _ (w h filter : ℕ) (a : List ℤ) (i : ℕ) where
-  pub filtered_pointwise : filter ≡ 0 ⊎ filter ≡ 12 → pointwise filter a i ≡ filtered w h filter a i
-  unfolding pointwise filtered
-  filtered_pointwise (inl e) = simp (eq-eqb filter 0 e)
-  filtered_pointwise (inr e) = simp (ne_eqb filter 0 (λ z. omega arith), eq-eqb filter 12 e)
+  pub filtered_itself : filter ≡ 0 → at a i ≡ filtered w h filter a i
+  unfolding filtered
+  filtered_itself e = simp (eq-eqb filter 0 e)
+
+  pub filtered_nothing : filter ≡ 12 → pos 0 ≡ filtered w h filter a i
+  unfolding filtered
+  filtered_nothing e = simp (ne_eqb filter 0 (λ z. omega arith), eq-eqb filter 12 e)
 
   pub filtered_mean : 1 ≤ filter → filter ≤ 11 → mean w h (get_or centre_weights (filter - 1) 0) a i ≡ filtered w h filter a i
   unfolding filtered

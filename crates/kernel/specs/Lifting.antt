@@ -4,8 +4,9 @@ use Rattle.integers.specs.Parts.{In}
 use Rattle.integers.specs.Lists.{at, AllIn, Changed}
 use Rattle.kernel.specs.Pass.{KeptPass, PassAllowed, applied}
 use Rattle.kernel.specs.Centre.{CentreWeight}
-use Rattle.kernel.specs.Window.{Windows}
+use Rattle.kernel.specs.Window.{MeanWindows, SampleWindow, one_if}
 use Rattle.kernel.specs.declared.centre.Centre.{Centre}
+use Rattle.kernel.specs.declared.window.Border.{Border}
 
 -- rows i to j − 1, with filter f and pass p
 pub record Liftable (w h f : ℕ) (p : KeptPass) (i j : ℕ) (a c : List ℤ) : Type 0 where
@@ -28,24 +29,25 @@ pub record LiftableMeans (w h f : ℕ) (p : KeptPass) (i j : ℕ) (a c : List �
 pub record SegmentIn (bound i j : ℕ) (l : List ℤ) : Type 0 where
   pub each : (k : ℕ) → i ≤ k → k < j → In bound bound (at l k)
 
--- indices i to j − 1
-pub record Segment (w left right above below : ℕ) (p : KeptPass) (i j : ℕ) (a c : List ℤ) : Type 0 where
-  pub windows : Windows w left right above below i j a
+-- indices i to j − 1 with windows that are inside
+pub record Segment (inside : ℕ → Type 0) (p : KeptPass) (i j : ℕ) (c : List ℤ) : Type 0 where
+  pub windows : (k : ℕ) → i ≤ k → k < j → inside k
   pub pass : PassAllowed p
   pub order : i ≤ j
   pub end : j ≤ length c
   pub changed : SegmentIn 4194304 i j c
 
 -- the same by means
-pub record MeanSegment (centre : Centre) (w left right above below : ℕ) (p : KeptPass) (i j : ℕ) (a c : List ℤ) : Type 0 where
-  pub segment : Segment w left right above below p i j a c
-  pub weights : CentreWeight centre
+abbrev pub MeanSegment : Border → KeptPass → (i j : ℕ) (a c : List ℤ) → Type 0
+MeanSegment b p i j a c =
+    Segment (λ k. MeanWindows b.centre b.width (one_if b.left) (one_if b.right) (one_if b.above) (one_if b.below) k (k + 1) a) p i j c
 
 -- row y by means
 pub record MeanRow (centre : Centre) (w h y : ℕ) (p : KeptPass) (a c : List ℤ) : Type 0 where
   pub row : y < h
   pub size : length a ≡ w * h
-  pub segment : Segment w 0 0 0 0 p (y * w) (y * w + w) a c
+  pub segment : Segment (λ k. SampleWindow k a) p (y * w) (y * w + w) c
+  pub read : AllIn 524288 524288 a
   pub weights : CentreWeight centre
 
 -- the samples at indices i to j − 1 have become what pass p makes of them with f

@@ -1,10 +1,11 @@
 -- The window's sums and the mean as the code forms them.
-use Rattle.std.specs.Prelude.{◌≡◌, ℕ, ◌+◌, ◌-◌, ◌*◌, ◌<◌, ◌≤◌, cond, List, length, ℤ, pos, ◌+ℤ◌, ◌*ℤ◌, ◌==◌}
+use Rattle.std.specs.Prelude.{Bool, true, false, ◌≡◌, ℕ, ◌+◌, ◌-◌, ◌*◌, ◌≤◌, List, length, ℤ, pos, ◌+ℤ◌, ◌*ℤ◌}
 use Rattle.integers.specs.Parts.{In}
 use Rattle.integers.specs.Lists.{at, AllIn}
 use Rattle.stage.specs.Filter.{rounded_mean}
 use Rattle.kernel.specs.Centre.{CentreWeight}
 use Rattle.kernel.specs.declared.centre.Centre.{Centre}
+use Rattle.kernel.specs.declared.window.Border.{Border}
 
 -- The windows of indices i to j − 1 lie in a plane of width w and n samples: left, right, above and below are 1 where there is such a
 -- column or row, and else 0.
@@ -33,10 +34,10 @@ RowWindow left right i a = Windows 0 left right 0 0 i (i + 1) a
 abbrev pub SampleWindow : ℕ → List ℤ → Type 0
 SampleWindow i a = RowWindow 0 0 i a
 
--- where present is 1 a window is read, where it is 0 nothing
-pub record Optional (present : ℕ) (window : Type 0) : Type 0 where
-  pub most : present ≤ 1
-  pub read : window
+-- how many columns or rows there are on one side, where one may be present
+abbrev pub one_if : Bool → ℕ
+one_if true = 1
+one_if false = 0
 
 -- a result r: the number z, and its range
 pub record ValueIn (bound : ℕ) (z r : ℤ) : Type 0 where
@@ -56,16 +57,6 @@ three_sum a i = at a (i - 1) +ℤ at a i +ℤ at a (i + 1)
 abbrev pub neighbour_sum : ℕ → List ℤ → ℕ → ℤ
 neighbour_sum w a i = three_sum a (i - w) +ℤ at a (i - 1) +ℤ at a (i + 1) +ℤ three_sum a (i + w)
 
--- the filters that need one sample only: 0 gives the sample itself, 12 gives 0
-unfoldable pub pointwise : ℕ → List ℤ → ℕ → ℤ
-pointwise filter a i = cond (filter == 0) (at a i) (pos 0)
-
--- r is 1 where n < m, and else 0
-pub record Indicator (n m r : ℕ) : Type 0 where
-  pub most : r ≤ 1
-  pub on : 1 ≤ r → n < m
-  pub off : n < m → 1 ≤ r
-
 -- a row of the window with centre i
 abbrev pub row_sum : List ℤ → ℕ → ℕ → ℕ → ℤ
 row_sum a i left right = pos left *ℤ at a (i - left) +ℤ at a i +ℤ pos right *ℤ at a (i + right)
@@ -84,3 +75,7 @@ window_sum w left right above below centre a i =
 unfoldable pub window_mean : ℕ → ℕ → ℕ → ℕ → ℕ → ℕ → List ℤ → ℕ → ℤ
 window_mean w left right above below centre a i =
     rounded_mean (window_sum w left right above below centre a i) (window_weight left right above below centre)
+
+-- the mean of a window by what is present of it
+abbrev pub border_mean : Border → List ℤ → ℕ → ℤ
+border_mean b = window_mean b.width (one_if b.left) (one_if b.right) (one_if b.above) (one_if b.below) b.centre.weight

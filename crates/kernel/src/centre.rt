@@ -3,7 +3,7 @@ ghost use Rattle.std.specs.Prelude.{◌≡◌, ◌/◌, ◌<◌, ◌≤◌};
 ghost use Rattle.kernel.specs.Centre.{Reciprocal, CentreEntry, ReciprocalDivision};
 
 // A filter's centre weight, 2^23 / weight, and the reciprocal of the full window's weight.
-#[derive(Clone, Copy)]
+#[derive(Clone, Copy, Debug, PartialEq, Eq)]
 pub struct Centre {
     pub weight: u32,
     pub offset: u32,
@@ -12,6 +12,9 @@ pub struct Centre {
 
 // Indexed by filter number less one.
 const CENTRE_WEIGHTS: [u32; 11] = [1, 2, 4, 8, 16, 32, 64, 128, 256, 512, 1024];
+
+// Where the constant table stands once: every use of a constant array copies the whole of it.
+static WEIGHTS: [u32; 11] = CENTRE_WEIGHTS;
 
 // The least whole number above 2^35 / d, found once for a pass over rows: the 64 bits are the dividend's.
 fn reciprocal_of(d: u32) -> u32
@@ -25,9 +28,9 @@ pub fn centre_at(entry: usize) -> Centre
     requires { entry < 11 }
     ensures { CentreEntry entry result }
 {
-    let weight = CENTRE_WEIGHTS[entry];
+    let weight = WEIGHTS[entry];
     Centre {
-        weight: weight,
+        weight,
         offset: 8388608 >> (entry as u32),
         reciprocal: reciprocal_of(8 + weight),
     }

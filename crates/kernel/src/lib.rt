@@ -8,7 +8,6 @@ ghost use Rattle.stage.specs.Filter.{filtered};
 ghost use Rattle.kernel.specs.Pass.{applied};
 ghost use Rattle.kernel.specs.Lifting.{Liftable, LiftableMeans, Lifted};
 
-mod border;
 mod centre;
 pub mod pass;
 mod row;
@@ -16,8 +15,10 @@ mod segment;
 mod window;
 
 use pass::KeptPass;
+use segment::lift_many;
+use window::{Itself, Nothing};
 
-// Filters 1 to 11.
+// Filters 1 to 11. Filters keep the numbers that the paper and the callers' choices give them.
 fn lift_means(
     c: &mut [i32],
     a: &[i32],
@@ -32,14 +33,12 @@ fn lift_means(
     ensures { Lifted pass (filtered width height filter a.now) (from * width) (to * width) c.old c.new }
 {
     let centre = centre::centre_at(filter - 1);
-    let mut y = from;
-    while y < to {
+    for y in from..to {
         row::lift_row(c, a, width, height, y, centre, pass);
-        y += 1;
     }
 }
 
-// Rows from .. to − 1 of plane c by a pass with plane a under a filter.
+// Rows from .. to − 1 of plane c by a pass with plane a under a filter. They are two numbers and no range: each is multiplied by the width.
 pub fn lift_rows(
     c: &mut [i32],
     a: &[i32],
@@ -53,8 +52,10 @@ pub fn lift_rows(
     requires { Liftable width height filter pass from to a.now c.old }
     ensures { Changed (λ i x. applied pass x (filtered width height filter a.now i)) (from * width) (to * width) c.old c.new }
 {
+    // a filter keeps the number that the calls have tested
     match filter {
-        0 | 12 => segment::lift_pointwise(c, a, filter, pass, from * width, to * width),
+        0 => lift_many(c, a, Itself, pass, from * width, to * width),
+        12 => lift_many(c, a, Nothing, pass, from * width, to * width),
         _ => lift_means(c, a, from, to, width, height, filter, pass),
     }
 }

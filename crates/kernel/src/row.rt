@@ -2,37 +2,32 @@
 ghost use Rattle.std.specs.Prelude.{◌+◌, ◌*◌};
 ghost use Rattle.stage.specs.Filter.{mean};
 ghost use Rattle.kernel.specs.Lifting.{MeanSegment, MeanRow, Lifted};
-ghost use Rattle.kernel.specs.Window.{window_mean};
+ghost use Rattle.kernel.specs.Window.{border_mean};
 
-use crate::border::lift_sample;
 use crate::centre::Centre;
 use crate::pass::KeptPass;
-use crate::segment::lift_interior;
-use crate::window::indicator;
+use crate::segment::{lift_each, lift_many};
+use crate::window::{Border, Whole};
 
-// Indices from .. to − 1 of a row, without its ends: above and below are 1 where there is such a row, and else 0.
+// Indices from .. to − 1 of a row, without its ends.
 fn lift_between_ends(
     c: &mut [i32],
     a: &[i32],
-    width: usize,
-    above: usize,
-    below: usize,
-    centre: Centre,
+    window: Border,
     pass: KeptPass,
     from: usize,
     to: usize,
 )
-    requires { MeanSegment centre width 1 1 above below pass from to a.now c.old }
-    ensures { Lifted pass (window_mean width 1 1 above below centre.weight a.now) from to c.old c.new }
+    requires { MeanSegment window pass from to a.now c.old }
+    ensures { Lifted pass (border_mean window a.now) from to c.old c.new }
 {
-    if above + below == 2 {
-        lift_interior(c, a, width, centre, pass, from, to);
-        return;
-    }
-    let mut i = from;
-    while i < to {
-        lift_sample(c, a, i, width, 1, 1, above, below, centre, pass);
-        i += 1;
+    let width = window.width;
+    let centre = window.centre;
+    let whole = window.left & window.right & window.above & window.below;
+    if whole {
+        lift_many(c, a, Whole { width, centre }, pass, from, to);
+    } else {
+        lift_each(c, a, window, pass, from, to);
     }
 }
 
@@ -49,15 +44,33 @@ pub fn lift_row(
     requires { MeanRow centre width height y pass a.now c.old }
     ensures { Lifted pass (mean width height centre.weight a.now) (y * width) (y * width + width) c.old c.new }
 {
-    let above = indicator(0, y);
-    let below = indicator(y + 1, height);
+    let inner = Border {
+        width,
+        centre,
+        left: true,
+        right: true,
+        above: 0 < y,
+        below: y + 1 < height,
+    };
+    let first = Border {
+        left: false,
+        ..inner
+    };
+    let last = Border {
+        right: false,
+        ..inner
+    };
+    let only = Border {
+        right: false,
+        ..first
+    };
     let start = y * width;
     if 1 < width {
-        let last = start + width - 1;
-        lift_sample(c, a, start, width, 0, 1, above, below, centre, pass);
-        lift_between_ends(c, a, width, above, below, centre, pass, start + 1, last);
-        lift_sample(c, a, last, width, 1, 0, above, below, centre, pass);
+        let end = start + width - 1;
+        lift_each(c, a, first, pass, start, start + 1);
+        lift_between_ends(c, a, inner, pass, start + 1, end);
+        lift_each(c, a, last, pass, end, end + 1);
     } else if width == 1 {
-        lift_sample(c, a, start, width, 0, 0, above, below, centre, pass);
+        lift_each(c, a, only, pass, start, start + 1);
     }
 }

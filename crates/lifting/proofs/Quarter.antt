@@ -22,20 +22,17 @@ use Rattle.stage.specs.declared.Form.TheVariants.{Plain, Wrapped}
 use Rattle.stage.specs.Transform.{kept}
 use Rattle.stage.proofs.Means.{filtered_in}
 use Rattle.kernel.specs.declared.pass.KeptPass.{KeptPass}
+use Rattle.kernel.specs.declared.pass.Lift.TheVariants.{FourfoldAdd, FourfoldSubtract, QuarterAdd, QuarterSubtract}
 use Rattle.kernel.specs.Pass.{PassAllowed, kept_pass, made, applied}
 use Rattle.kernel.proofs.Quarters.{quarter_added, quarter_subtracted}
 use Rattle.lifting.specs.Passes.{quarter_lifted, quarter_at}
 
-number_most : (back : Bool) {m n : ℕ} → m ≤ 8 → n ≤ 8 → cond back n m ≤ 8
-number_most true p q = q
-number_most false p q = p
-
 -- ---- one sample
-two_passes : (back : Bool) (x f g : ℤ) → made (cond back 8 7) (made (cond back 6 5) x f) g ≡ quarter_lifted back x f g
+two_passes : (back : Bool) (x f g : ℤ) → made (cond back QuarterSubtract QuarterAdd) (made (cond back FourfoldSubtract FourfoldAdd) x f) g ≡ quarter_lifted back x f g
 two_passes true = quarter_subtracted
 two_passes false = quarter_added
 
-fourfold_in : (back : Bool) (x f : ℤ) → In 524288 524288 x → In 524288 524288 f → In 4194304 4194304 (made (cond back 6 5) x f)
+fourfold_in : (back : Bool) (x f : ℤ) → In 524288 524288 x → In 524288 524288 f → In 4194304 4194304 (made (cond back FourfoldSubtract FourfoldAdd) x f)
 unfolding made
 fourfold_in true x f h i = in_lin (simp flat (simp count (omega arith)))
 fourfold_in false x f h i = in_lin (simp flat (simp count (omega arith)))
@@ -71,8 +68,8 @@ pub record Turn (κ : Form) (d w h f g : ℕ) (back : Bool) (a b c₀ c : List �
 pub record Turns (κ : Form) (d w h f g : ℕ) (back : Bool) (a b c₀ : List ℤ) (first second : KeptPass) : Type 0 where
   pub unskipped : (eqb f 12 && eqb g 12) ≡ false
   pub depth : d ≤ 16
-  pub first_is : first ≡ kept_pass (cond back 6 5) Plain d
-  pub second_is : second ≡ kept_pass (cond back 8 7) κ d
+  pub first_is : first ≡ kept_pass (cond back FourfoldSubtract FourfoldAdd) Plain d
+  pub second_is : second ≡ kept_pass (cond back QuarterSubtract QuarterAdd) κ d
   pub first_range : AllIn 524288 524288 a
   pub second_range : AllIn 524288 524288 b
   pub own_range : AllIn 524288 524288 c₀
@@ -88,8 +85,8 @@ turn {κ} {d} {w} {h} {f} {g} {back} {a} {b} {c₀} {c} {first} {second} {i} {j}
     changed_in u (all_wider t.own_range (lit≤ tt) (lit≤ tt))
     (λ k _ _. subst (In 4194304 4194304) (sym (one k _)) (kept_in κ d _ t.depth (quarter_in back _ _ _ (t.own_range.each k) (f_in k) (g_in k)))) in
     record {
-      first_allowed = rw t.first_is (record { number = number_most back (lit≤ tt) (lit≤ tt); depth = t.depth });
-      second_allowed = rw t.second_is (record { number = number_most back (lit≤ tt) (lit≤ tt); depth = t.depth });
+      first_allowed = rw t.first_is (record { depth = t.depth });
+      second_allowed = rw t.second_is (record { depth = t.depth });
       range = c_in;
       range_between = λ v. changed_in v c_in (λ k r _. rw (t.first_is, u.high k r) (fourfold_in back _ _ (t.own_range.each k) (f_in k)));
       made = λ v x. changed_join u

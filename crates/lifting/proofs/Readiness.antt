@@ -15,7 +15,8 @@ use Rattle.stage.specs.declared.Bands.{Bands}
 use Rattle.stage.specs.declared.Form.TheVariants.{Plain}
 use Rattle.stage.specs.declared.Plane.{Plane}
 use Rattle.stage.specs.Settings.{depth_at, depths_suit}
-use Rattle.stage.specs.Planes.{Triple, Planes}
+use Rattle.stage.specs.declared.Triple.{Triple}
+use Rattle.stage.specs.Planes.{Planes}
 use Rattle.stage.specs.Steps.{Step, steps, run, undo}
 use Rattle.stage.specs.Ranges.{ranges, sample_ranges, finished_ranges, bounded, InRanges}
 use Rattle.stage.specs.Transform.{HasSize, Picture, setup}

@@ -6,6 +6,11 @@ use Prim.Native.Nat.{ℕ, zero, suc, ◌+◌, ◌-◌, ◌≤◌, ◌<◌}
 use native.Mathlib.Omega.{arith}
 use lib.Dec.{lit≤}
 use lib.ListN.{length}
+use native.Mathlib.Numerals.{add-one}
+use denote.Enum.Bare.{sameb}
+use Rattle.stage.specs.contracts.Plane.{the_type}
+use Rattle.stage.specs.Planes.{same_plane}
+use Rattle.lifting.specs.declared.passes.Pass.{Pass}
 use Rattle.stage.specs.declared.Plane.{Plane}
 use Rattle.stage.specs.declared.Plane.TheVariants.{C1, C2, C3}
 use Rattle.stage.specs.Steps.{Step, steps, places}
@@ -24,14 +29,6 @@ told (suc zero) h = record { known = h; some = lit≤ tt; few = lit≤ tt; enoug
 told (suc (suc zero)) h = record { known = h; some = lit≤ tt; few = lit≤ tt; enough = lit≤ tt; last = refl }
 told (suc (suc (suc zero))) h = record { known = h; some = lit≤ tt; few = lit≤ tt; enough = lit≤ tt; last = refl }
 told (suc (suc (suc (suc t)))) h = absurd (omega arith)
-
--- no transform above 3 has places
-pub no_places : (t : ℕ) → 3 < t → 0 ≡ places (steps t)
-no_places zero h = absurd (omega arith)
-no_places (suc zero) h = absurd (omega arith)
-no_places (suc (suc zero)) h = absurd (omega arith)
-no_places (suc (suc (suc zero))) h = absurd (omega arith)
-no_places (suc (suc (suc (suc t)))) h = refl
 
 -- a place is a known transform's
 pub known : (t k : ℕ) → k < places (steps t) → t ≤ 3
@@ -78,6 +75,23 @@ last_is (suc (suc (suc zero))) h C2 = refl
 last_is (suc (suc (suc zero))) h C3 = refl
 last_is (suc (suc (suc (suc t)))) h c = absurd (omega arith)
 
+-- `==` of planes
+pub same_is : (c d : Plane) → sameb the_type c d ≡ same_plane c d
+same_is C1 C1 = refl
+same_is C1 C2 = refl
+same_is C1 C3 = refl
+same_is C2 C1 = refl
+same_is C2 C2 = refl
+same_is C2 C3 = refl
+same_is C3 C1 = refl
+same_is C3 C2 = refl
+same_is C3 C3 = refl
+
+-- one pass more
+pub last_more : (t : ℕ) (c : Plane) (k : ℕ) {x : Pass} (b : Bool) {m : ℕ} → x ≡ pass_at t k → b ≡ same_plane x.changed c → m ≡ last_of t c k
+    → cond b (x.step + 1) m ≡ last_of t c (k + 1)
+last_more t c k b e f g = rw (f, e, g, add-one k) refl
+
 pub step_inside : (l : List Step) (k : ℕ) → step_of l k ≤ length l
 step_inside [] k = omega arith
 step_inside (s ∷ l) k = pick (has_place s.term k) (step_inside l k)
@@ -85,9 +99,6 @@ step_inside (s ∷ l) k = pick (has_place s.term k) (step_inside l k)
     pick : (b : Bool) → step_of l k ≤ length l → cond b 0 (suc (step_of l k)) ≤ suc (length l)
     pick true h = omega arith
     pick false h = omega arith
-
-pub step_few : (t k : ℕ) → k < places (steps t) → (pass_at t k).step ≤ 4
-step_few t k h = omega (arith, step_is t k h, step_inside (steps t) k, (told t (known t k h)).few)
 
 -- places are numbered in the order of their steps
 pub step_order : (t k : ℕ) → k + 1 < places (steps t) → step_of (steps t) k ≤ step_of (steps t) (k + 1)

@@ -1,130 +1,101 @@
 -- A transform's passes make its steps, forward and back.
 use mathlib.Core.Path.{◌≡◌, refl, sym, ap, ap₂, ◌∙◌, subst}
-use mathlib.Core.Bool.{Bool, true, false, cond, not, ◌&&◌}
+use mathlib.Core.Bool.{Bool, true, false, not, ◌&&◌}
 use mathlib.Core.List.{List, [], ◌∷◌}
-use Prim.Native.Nat.{ℕ, zero, suc, ◌*◌, ◌≤◌, ◌<◌}
+use Prim.Native.Nat.{ℕ, zero, suc, ◌*◌, ◌<◌}
 use native.Mathlib.Omega.{arith}
-use lib.Dec.{T, eqb, leb, leb→le, eqb→eq, lit≤}
+use lib.Dec.{T, eqb, eqb→eq, lit≤}
 use lib.IntN.{ℤ}
 use lib.ListN.{length, get_or}
-use Rattle.integers.specs.Lists.{AllIn, map_indexed, Changed}
-use Rattle.integers.proofs.Booleans.{and_iff, true_holds, fails_false}
+use Rattle.integers.specs.Lists.{map_indexed, Changed}
+use Rattle.integers.proofs.Booleans.{and_iff, true_holds}
 use Rattle.integers.proofs.Lists.{all_wider}
-use Rattle.integers.proofs.Changes.{changed_all, changed_as, changed_idle}
+use Rattle.integers.proofs.Changes.{changed_all, changed_idle}
 use Rattle.stage.specs.declared.Settings.{Settings}
 use Rattle.stage.specs.declared.Form.{Form}
 use Rattle.stage.specs.declared.Bands.{Bands}
 use Rattle.stage.specs.declared.Plane.{Plane}
 use Rattle.stage.specs.declared.Plane.TheVariants.{C1, C2, C3}
 use Rattle.stage.specs.Planes.{Planes, get, put, same_plane}
-use Rattle.stage.specs.Filter.{filtered}
 use Rattle.stage.specs.Steps.{Setup, steps, places, lifted}
 use Rattle.stage.specs.Transform.{HasSize, setup}
-use Rattle.stage.proofs.Triples.{get-put, get_other, others_same}
+use Rattle.stage.proofs.Triples.{others_same}
 use Rattle.kernel.specs.declared.pass.KeptPass.{KeptPass}
 use Rattle.kernel.specs.Pass.{PassAllowed, kept_pass, made, applied}
 use Rattle.kernel.specs.Lifting.{Liftable}
 use Rattle.lifting.specs.declared.passes.Pass.{Pass}
-use Rattle.lifting.specs.declared.passes.Row.{Row}
-use Rattle.lifting.specs.Passes.{tables, no_row, pass_of, pass_at, step_at, reversed_if, number, first_other, second_other, passed, quarter_at}
+use Rattle.lifting.specs.Passes.{tables, no_pass, pass_at, step_at, reversed_if, way, first_other, second_other, passed, quarter_at}
 use Rattle.lifting.specs.Steps.{PassReady, RowsChanged}
 
--- ---- every pass has numbers of the kernel's passes, and does not read the plane that it changes
+-- ---- no pass reads the plane that it changes
 abbrev pass_fits : Pass → Bool
-pass_fits x = leb x.forward 8 && (leb x.back 8 && not (same_plane x.read x.changed))
+pass_fits x = not (same_plane x.read x.changed)
 
-abbrev AllFit : List Row → Type 0
+abbrev AllFit : List Pass → Type 0
 AllFit [] = Unit {0}
-AllFit (x ∷ l) = T (pass_fits (pass_of x)) × AllFit l
+AllFit (x ∷ l) = T (pass_fits x) × AllFit l
 
-entry_fits : (l : List Row) (k : ℕ) → k < length l → AllFit l → T (pass_fits (pass_of (get_or l k no_row)))
+entry_fits : (l : List Pass) (k : ℕ) → k < length l → AllFit l → T (pass_fits (get_or l k no_pass))
 entry_fits [] k h s = absurd (omega arith)
 entry_fits (x ∷ l) zero h s = s.0
 entry_fits (x ∷ l) (suc k) h s = entry_fits l k (omega arith) s.1
 
-all_fit : (t k : ℕ) → k < places (steps t) → T (pass_fits (pass_at t k))
+pub all_fit : (t k : ℕ) → k < places (steps t) → T (pass_fits (pass_at t k))
 all_fit zero k h = entry_fits (get_or tables 0 []) k h (tt, (tt, (tt, (tt, tt))))
 all_fit (suc zero) k h = entry_fits (get_or tables 1 []) k h (tt, (tt, (tt, (tt, tt))))
 all_fit (suc (suc zero)) k h = entry_fits (get_or tables 2 []) k h (tt, (tt, tt))
 all_fit (suc (suc (suc zero))) k h = entry_fits (get_or tables 3 []) k h (tt, (tt, (tt, tt)))
 all_fit (suc (suc (suc (suc t)))) k h = absurd (omega arith)
 
-pub record PassFits (x : Pass) : Type 0 where
-  pub number : (back : Bool) → number back x ≤ 8
-  pub apart : T (not (same_plane x.read x.changed))
-
-pub pass_fits_lem : (t k : ℕ) → k < places (steps t) → PassFits (pass_at t k)
-pass_fits_lem t k h =
-    let x = pass_at t k in
-    let f = (and_iff (leb x.forward 8) _).0 (all_fit t k h) in
-    let b = (and_iff (leb x.back 8) (not (same_plane x.read x.changed))).0 f.1 in
-    record { number = most (leb→le x.forward 8 f.0) (leb→le x.back 8 b.0); apart = b.1 }
-  where
-    most : {m n : ℕ} → m ≤ 8 → n ≤ 8 → (back : Bool) → cond back n m ≤ 8
-    most p q true = q
-    most p q false = p
-
 -- ---- a pass by the planes that it changes and reads
-read_is : (c a : Plane) → T (not (same_plane a c)) → (p : Planes) → cond (same_plane a (first_other c)) (get p (first_other c)) (get p (second_other c)) ≡ get p a
-read_is C1 C1 h p = absurd h
-read_is C1 C2 h p = refl
-read_is C1 C3 h p = refl
-read_is C2 C1 h p = refl
-read_is C2 C2 h p = absurd h
-read_is C2 C3 h p = refl
-read_is C3 C1 h p = refl
-read_is C3 C2 h p = refl
-read_is C3 C3 h p = absurd h
+left_over : (a c : Plane) → T (not (same_plane a c)) → (a ≡ first_other c → ⊥) → a ≡ second_other c
+left_over C1 C1 h f = absurd h
+left_over C1 C2 h f = absurd (f refl)
+left_over C1 C3 h f = absurd (f refl)
+left_over C2 C1 h f = absurd (f refl)
+left_over C2 C2 h f = absurd h
+left_over C2 C3 h f = refl
+left_over C3 C1 h f = refl
+left_over C3 C2 h f = refl
+left_over C3 C3 h f = absurd h
 
--- x is the pass of place k, n its number, c the plane that it changes; b says whether it reads the first other plane
-pub record PassOf (κ : Form) (s : Settings) (k : ℕ) (back : Bool) (x : Pass) (n : KeptPass) (b : Bool) (c : Plane) : Type 0 where
+-- a pass that does not read the first other plane reads the second
+pub reads_second : (t k : ℕ) {x : Pass} {c : Plane} → k < places (steps t) → x ≡ pass_at t k → x.changed ≡ c → (x.read ≡ first_other c → ⊥) → x.read ≡ second_other c
+reads_second t k {x} {c} h e f g =
+    let apart = subst (λ (y : Pass). T (pass_fits y)) (sym e) (all_fit t k h) in
+    left_over x.read c (subst (λ (d : Plane). T (not (same_plane x.read d))) f apart) g
+
+-- x is the pass of place k, n the kernel's; it changes plane c and reads plane d
+pub record PassOf (κ : Form) (s : Settings) (k : ℕ) (back : Bool) (x : Pass) (n : KeptPass) (c d : Plane) : Type 0 where
   pub pass_is : x ≡ pass_at s.transform k
-  pub number_is : n ≡ kept_pass (number back x) κ s.depths.c1
-  pub first_is : b ≡ same_plane x.read (first_other x.changed)
+  pub kept_is : n ≡ kept_pass (way back x) κ s.depths.c1
   pub changed_is : x.changed ≡ c
+  pub read_is : x.read ≡ d
 
-module _ {κ : Form} {s : Settings} {k f from to : ℕ} {p : Planes} {back : Bool} {x : Pass} {n : KeptPass} {b : Bool} {c : Plane} (r : PassReady s k f from to p) (o : PassOf κ s k back x n b c) where
+module _ {κ : Form} {s : Settings} {k f from to : ℕ} {p : Planes} {back : Bool} {x : Pass} {n : KeptPass} {c d : Plane} (r : PassReady s k f from to p) (o : PassOf κ s k back x n c d) where
   abbrev X : Pass
   X = pass_at s.transform k
 
-  -- the plane read
-  abbrev a : List ℤ
-  a = cond b (get p (first_other c)) (get p (second_other c))
-
-  number_same : n ≡ kept_pass (number back X) κ s.depths.c1
-  number_same = o.number_is ∙ ap (λ (y : Pass). kept_pass (number back y) κ s.depths.c1) o.pass_is
+  kept_same : n ≡ kept_pass (way back X) κ s.depths.c1
+  kept_same = o.kept_is ∙ ap (λ (y : Pass). kept_pass (way back y) κ s.depths.c1) o.pass_is
 
   changed_same : X.changed ≡ c
   changed_same = sym (ap (λ (y : Pass). y.changed) o.pass_is) ∙ o.changed_is
 
-  read_same : a ≡ get p X.read
-  read_same =
-      let apart = subst (λ (d : Plane). T (not (same_plane X.read d))) changed_same (pass_fits_lem s.transform k r.place).apart in
-      ap (λ (y : Bool). cond y (get p (first_other c)) (get p (second_other c)))
-      (o.first_is ∙ ap₂ (λ (y z : Plane). same_plane y (first_other z)) (ap (λ (y : Pass). y.read) o.pass_is) o.changed_is) ∙ read_is c X.read apart p
+  read_same : get p d ≡ get p X.read
+  read_same = ap (get p) (sym o.read_is ∙ ap (λ (y : Pass). y.read) o.pass_is)
 
-  pub pass_liftable : Liftable s.width s.height f n from to a (get p c)
+  pub pass_liftable : Liftable s.width s.height f n from to (get p d) (get p c)
   pass_liftable = record {
     filter = r.filter;
-    pass = subst PassAllowed (sym number_same) (record { number = (pass_fits_lem s.transform k r.place).number back; depth = r.depth });
+    pass = subst PassAllowed (sym kept_same) (record { depth = r.depth });
     order = r.order;
     rows = r.rows;
-    read_size = ap length read_same ∙ r.planes.size X.read;
+    read_size = r.planes.size d;
     changed_size = r.planes.size c;
-    read = subst (AllIn 524288 524288) (sym read_same) (r.planes.small X.read);
+    read = r.planes.small d;
     changed = all_wider (r.planes.small c) (lit≤ tt) (lit≤ tt);
   }
-
-  pub pass_changed : (f ≡ 12 → ⊥) → {after : List ℤ} → Changed (λ i z. applied n z (filtered s.width s.height f a i)) (from * s.width) (to * s.width) (get p c) after
-      → RowsChanged (passed κ s back f X p) X.changed s from to p (put p c after)
-  pass_changed e {after} u =
-      subst (λ (d : Plane). RowsChanged (passed κ s back f X p) d s from to p (put p c after)) (sym changed_same) (record {
-        rows =
-            subst (λ (l : List ℤ). Changed (passed κ s back f X p) (from * s.width) (to * s.width) (get p c) l) (sym (get-put p c after))
-            (changed_as _ _ u refl refl
-            (λ i z _ _. ap₂ (λ (m : KeptPass) (l : List ℤ). applied m z (filtered s.width s.height f l i)) number_same read_same ∙ rw (fails_false (eqb f 12) (λ t. e (eqb→eq f 12 t)))));
-        others = λ d h. get_other p d c after h;
-      })
 
 -- a null filter: all rows are as they were
 pub pass_skipped : (κ : Form) (s : Settings) (back : Bool) (f from to : ℕ) (x : Pass) (p : Planes) → f ≡ 12 → RowsChanged (passed κ s back f x p) x.changed s from to p p

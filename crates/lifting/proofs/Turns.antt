@@ -4,17 +4,15 @@ use mathlib.Core.Bool.{Bool, true, false}
 use mathlib.Core.List.{List}
 use Prim.Native.Nat.{ℕ, suc, ◌+◌, ◌≤◌, ◌<◌}
 use native.Mathlib.Omega.{arith}
-use lib.ListN.{length}
 use Rattle.integers.specs.Slices.{slice}
 use Rattle.integers.proofs.Slices.{slice_none}
 use Rattle.stage.specs.declared.Settings.{Settings}
 use Rattle.stage.specs.declared.Form.{Form}
 use Rattle.stage.specs.declared.Bands.{Bands}
-use Rattle.stage.specs.declared.Plane.{Plane}
-use Rattle.stage.specs.Planes.{Planes, get}
+use Rattle.stage.specs.Planes.{Planes}
 use Rattle.stage.specs.Steps.{Step, steps, step, run, undo, reversed}
 use Rattle.stage.specs.Transform.{setup}
-use Rattle.stage.proofs.StepLists.{run_more, undo_more, run_same, undo_same}
+use Rattle.stage.proofs.StepLists.{run_more, undo_more}
 use Rattle.lifting.specs.Passes.{any_step, step_at, reversed_if}
 use Rattle.lifting.specs.Steps.{Ready, StepsFit, StepReady, RunReady, UndoReady}
 
@@ -30,9 +28,6 @@ module _ {κ : Form} {β : Bands} {s : Settings} {φ : List ℕ} {from to : ℕ}
   pub run_none : p ≡ run (setup κ β s φ) (slice (steps s.transform) from from) p
   run_none = sym (ap (λ (l : List Step). run (setup κ β s φ) l p) (slice_none (steps s.transform) from))
 
-  pub run_long : (k : ℕ) (q : Planes) → q ≡ run (setup κ β s φ) (slice (steps s.transform) from k) p → (c : Plane) → length (get q c) ≡ length (get p c)
-  run_long k = run_same (setup κ β s φ) (slice (steps s.transform) from k) p
-
 module _ {κ : Form} {β : Bands} {s : Settings} {φ : List ℕ} {from to : ℕ} {p : Planes} (d : RunReady κ β s φ from to p) (k : ℕ) (q : Planes) (low : from ≤ k) (high : k < to)
     (e : q ≡ run (setup κ β s φ) (slice (steps s.transform) from k) p) where
   pub run_turn : (r : Planes) → r ≡ step (setup κ β s φ) (step_at s.transform k) q → r ≡ run (setup κ β s φ) (slice (steps s.transform) from (k + 1)) p
@@ -46,9 +41,6 @@ module _ {κ : Form} {β : Bands} {s : Settings} {φ : List ℕ} {from to : ℕ}
 module _ {κ : Form} {β : Bands} {s : Settings} {φ : List ℕ} {from to : ℕ} {p : Planes} (d : UndoReady κ β s φ from to p) where
   pub undo_none : p ≡ undo (setup κ β s φ) (slice (steps s.transform) to to) p
   undo_none = sym (ap (λ (l : List Step). undo (setup κ β s φ) l p) (slice_none (steps s.transform) to))
-
-  pub undo_long : (k : ℕ) (q : Planes) → q ≡ undo (setup κ β s φ) (slice (steps s.transform) k to) p → (c : Plane) → length (get q c) ≡ length (get p c)
-  undo_long k = undo_same (setup κ β s φ) (slice (steps s.transform) k to) p
 
 -- j is k + 1
 module _ {κ : Form} {β : Bands} {s : Settings} {φ : List ℕ} {from to : ℕ} {p : Planes} (d : UndoReady κ β s φ from to p) (k : ℕ) (q : Planes) (low : from ≤ k) (high : k < to)

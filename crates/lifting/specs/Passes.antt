@@ -9,33 +9,31 @@ use Rattle.stage.specs.Planes.{Planes, get, same_plane}
 use Rattle.stage.specs.Filter.{filtered}
 use Rattle.stage.specs.Steps.{Step, Term, add, subtract, lift, ◌ᵈ◌, ◌⊕◌, ◌/2, ◌/4, ◌←+◌, reversed, steps}
 use Rattle.stage.specs.Transform.{kept}
+use Rattle.kernel.specs.declared.pass.Lift.{Lift}
+use Rattle.kernel.specs.declared.pass.Lift.TheVariants.{Add, Subtract, Negate, AddHalf, SubtractHalf, FourfoldAdd, FourfoldSubtract, QuarterAdd, QuarterSubtract}
 use Rattle.kernel.specs.Pass.{kept_pass, applied}
 use Rattle.lifting.specs.declared.passes.Pass.{Pass}
-use Rattle.lifting.specs.declared.passes.Row.{Row}
 
--- The transforms' passes, a row for each place in order: the plane changed, the plane read, the kernel's numbers forward and back (0
--- and 1 add and subtract, 2 negates, 3 and 4 are for a half, 5 to 8 for a quarter of a sum, which takes two), and the step.
-abbrev pub row : Plane → Plane → ℕ → ℕ → ℕ → Row
-row c a forward back j = record { 0 = c; 1 = a; 2 = forward; 3 = back; 4 = j }
+-- The transforms' passes, a row for each place in order: the plane changed, the plane read, the kernel's pass forward and back, and the
+-- step.
+abbrev pub row : Plane → Plane → Lift → Lift → ℕ → Pass
+row c a forward back j = record { changed = c; read = a; forward = forward; back = back; step = j }
 
-abbrev pub tables : List (List Row)
+abbrev pub tables : List (List Pass)
 tables =
-    (row C1 C2 1 0 0 ∷ row C3 C2 1 0 1 ∷ row C2 C1 5 6 2 ∷ row C2 C3 7 8 2 ∷ [])
-    ∷ (row C1 C3 1 0 0 ∷ row C3 C1 3 4 1 ∷ row C2 C3 1 0 2 ∷ row C3 C2 3 4 3 ∷ [])
-    ∷ (row C3 C2 2 2 0 ∷ row C2 C1 2 2 1 ∷ [])
-    ∷ (row C2 C1 2 2 0 ∷ row C1 C2 4 3 1 ∷ row C3 C1 1 0 2 ∷ [])
+    (row C1 C2 Subtract Add 0 ∷ row C3 C2 Subtract Add 1 ∷ row C2 C1 FourfoldAdd FourfoldSubtract 2 ∷ row C2 C3 QuarterAdd QuarterSubtract 2 ∷ [])
+    ∷ (row C1 C3 Subtract Add 0 ∷ row C3 C1 AddHalf SubtractHalf 1 ∷ row C2 C3 Subtract Add 2 ∷ row C3 C2 AddHalf SubtractHalf 3 ∷ [])
+    ∷ (row C3 C2 Negate Negate 0 ∷ row C2 C1 Negate Negate 1 ∷ [])
+    ∷ (row C2 C1 Negate Negate 0 ∷ row C1 C2 SubtractHalf AddHalf 1 ∷ row C3 C1 Subtract Add 2 ∷ [])
     ∷ []
 
 -- past the last, what stands for none
-abbrev pub no_row : Row
-no_row = row C1 C1 0 0 0
-
-abbrev pub pass_of : Row → Pass
-pass_of r = record { changed = r.0; read = r.1; forward = r.2; back = r.3; step = r.4 }
+abbrev pub no_pass : Pass
+no_pass = row C1 C1 Add Add 0
 
 -- the pass of place k of transform t
 abbrev pub pass_at : ℕ → ℕ → Pass
-pass_at t k = pass_of (get_or (get_or tables t []) k no_row)
+pass_at t k = get_or (get_or tables t []) k no_pass
 
 -- step k of transform t; past the last, any step
 abbrev pub any_step : Step
@@ -44,12 +42,12 @@ any_step = C1 ←+ C2 ᵈ 0
 abbrev pub step_at : ℕ → ℕ → Step
 step_at t k = get_or (steps t) k any_step
 
--- a step, or the step that undoes it; the kernel's number of a pass forward, or back
+-- a step, or the step that undoes it; the kernel's pass forward, or back
 abbrev pub reversed_if : Bool → Step → Step
 reversed_if back s = cond back (reversed s) s
 
-abbrev pub number : Bool → Pass → ℕ
-number back x = cond back x.back x.forward
+abbrev pub way : Bool → Pass → Lift
+way back x = cond back x.back x.forward
 
 -- the two planes other than c
 abbrev pub first_other : Plane → Plane
@@ -65,7 +63,7 @@ second_other C3 = C2
 -- what a step of one place makes of the sample z at index i of the plane that its pass changes, under a filter; a null one skips it
 abbrev pub passed : Form → Settings → Bool → ℕ → Pass → Planes → ℕ → ℤ → ℤ
 passed κ s back filter x p i z =
-    cond (eqb filter 12) z (applied (kept_pass (number back x) κ s.depths.c1) z (filtered s.width s.height filter (get p x.read) i))
+    cond (eqb filter 12) z (applied (kept_pass (way back x) κ s.depths.c1) z (filtered s.width s.height filter (get p x.read) i))
 
 -- a quarter of two filtered values f and g added to a sample, or back subtracted from it
 abbrev pub quarter_lifted : Bool → ℤ → ℤ → ℤ → ℤ

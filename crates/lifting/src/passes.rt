@@ -1,113 +1,91 @@
 // Each transform as one table of passes over planes: whatever the code runs of a transform is read from it. (Crate `ranges` has the steps
-// once more, for ranges.)
-ghost use Rattle.std.specs.Prelude.{◌≡◌, cond, ◌+◌, ◌≤◌, ◌<◌, length};
-ghost use Rattle.stage.specs.Planes.{same_plane};
+// once more, for ranges.) Transforms and places keep the numbers that the papers and the calls give them.
+ghost use Rattle.std.specs.Prelude.{◌≡◌, [], ◌+◌, ◌≤◌, ◌<◌, length, get_or};
 ghost use Rattle.stage.specs.Steps.{steps, places};
-ghost use Rattle.lifting.specs.Passes.{pass_of, pass_at, step_of, last_change};
+ghost use Rattle.kernel.specs.Pass.{kept_pass};
+ghost use Rattle.lifting.specs.Passes.{tables, pass_at, way, step_of, last_change};
 
-use kernel::pass::{
-    ADD, ADD_HALF, FOURFOLD_ADD, FOURFOLD_SUBTRACT, NEGATE, QUARTER_ADD, QUARTER_SUBTRACT,
-    SUBTRACT, SUBTRACT_HALF,
-};
-use stage::{Plane, same_plane};
+use kernel::pass::{KeptPass, Lift};
+use stage::{Form, Plane};
 
 // A pass changes a plane by the filtered values of another, which it reads: the kernel's pass forward and back, and the step that
 // it belongs to. Its number in its transform is its place.
-#[derive(Clone, Copy)]
+#[derive(Clone, Copy, Debug, PartialEq, Eq)]
 pub struct Pass {
     pub changed: Plane,
     pub read: Plane,
-    pub forward: u32,
-    pub back: u32,
+    pub forward: Lift,
+    pub back: Lift,
     pub step: usize,
 }
 
-// A row of a transform's table: the fields of a pass in order.
-#[derive(Clone, Copy)]
-struct Row(Plane, Plane, u32, u32, usize);
+macro_rules! table {
+    ($(($changed:ident, $read:ident, $forward:ident, $back:ident, $step:literal)),* $(,)?) => {
+        [$(Pass {
+            changed: Plane::$changed,
+            read: Plane::$read,
+            forward: Lift::$forward,
+            back: Lift::$back,
+            step: $step,
+        }),*]
+    };
+}
 
 // C1 ← C1 − C2d; C3 ← C3 − C2d; C2 ← C2 + (C1d + C3d)/4
-const RCT: [Row; 4] = [
-    Row(Plane::C1, Plane::C2, SUBTRACT, ADD, 0),
-    Row(Plane::C3, Plane::C2, SUBTRACT, ADD, 1),
-    Row(Plane::C2, Plane::C1, FOURFOLD_ADD, FOURFOLD_SUBTRACT, 2),
-    Row(Plane::C2, Plane::C3, QUARTER_ADD, QUARTER_SUBTRACT, 2),
+static RCT: [Pass; 4] = table![
+    (C1, C2, Subtract, Add, 0),
+    (C3, C2, Subtract, Add, 1),
+    (C2, C1, FourfoldAdd, FourfoldSubtract, 2),
+    (C2, C3, QuarterAdd, QuarterSubtract, 2),
 ];
 
 // C1 ← C1 − C3d; C3 ← C3 + C1d/2; C2 ← C2 − C3d; C3 ← C3 + C2d/2
-const YCOCG_R: [Row; 4] = [
-    Row(Plane::C1, Plane::C3, SUBTRACT, ADD, 0),
-    Row(Plane::C3, Plane::C1, ADD_HALF, SUBTRACT_HALF, 1),
-    Row(Plane::C2, Plane::C3, SUBTRACT, ADD, 2),
-    Row(Plane::C3, Plane::C2, ADD_HALF, SUBTRACT_HALF, 3),
+static YCOCG_R: [Pass; 4] = table![
+    (C1, C3, Subtract, Add, 0),
+    (C3, C1, AddHalf, SubtractHalf, 1),
+    (C2, C3, Subtract, Add, 2),
+    (C3, C2, AddHalf, SubtractHalf, 3),
 ];
 
 // C3 ← −C3 + C2d; C2 ← −C2 + C1d
-const RDGDB: [Row; 2] = [
-    Row(Plane::C3, Plane::C2, NEGATE, NEGATE, 0),
-    Row(Plane::C2, Plane::C1, NEGATE, NEGATE, 1),
-];
+static RDGDB: [Pass; 2] = table![(C3, C2, Negate, Negate, 0), (C2, C1, Negate, Negate, 1),];
 
 // C2 ← −C2 + C1d; C1 ← C1 − C2d/2; C3 ← C3 − C1d
-const LDGEB: [Row; 3] = [
-    Row(Plane::C2, Plane::C1, NEGATE, NEGATE, 0),
-    Row(Plane::C1, Plane::C2, SUBTRACT_HALF, ADD_HALF, 1),
-    Row(Plane::C3, Plane::C1, SUBTRACT, ADD, 2),
+static LDGEB: [Pass; 3] = table![
+    (C2, C1, Negate, Negate, 0),
+    (C1, C2, SubtractHalf, AddHalf, 1),
+    (C3, C1, Subtract, Add, 2),
 ];
 
-fn from_row(row: Row) -> Pass
-    ensures { result ≡ pass_of row }
-{
-    let changed = row.0;
-    let read = row.1;
-    Pass {
-        changed: changed,
-        read: read,
-        forward: row.2,
-        back: row.3,
-        step: row.4,
+impl Pass {
+    // The kernel's pass forward, or back, and how its result is kept.
+    // `back` is a flag as in `run_step`.
+    pub(crate) fn kept(self, back: bool, form: Form, depth: u32) -> KeptPass
+        ensures { result ≡ kept_pass (way back self) form depth }
+    {
+        let lift = if back { self.back } else { self.forward };
+        KeptPass { lift, form, depth }
     }
 }
 
-fn rct(place: usize) -> Pass
-    requires { place < 4 }
-    ensures { result ≡ pass_at 0 place }
+// A transform's passes, place by place, by the number that the calls have tested: none, past the last transform.
+fn passes(transform: u32) -> &'static [Pass]
+    ensures { result.now ≡ get_or tables transform [] }
 {
-    from_row(RCT[place])
-}
-
-fn ycocg_r(place: usize) -> Pass
-    requires { place < 4 }
-    ensures { result ≡ pass_at 1 place }
-{
-    from_row(YCOCG_R[place])
-}
-
-fn rdgdb(place: usize) -> Pass
-    requires { place < 2 }
-    ensures { result ≡ pass_at 2 place }
-{
-    from_row(RDGDB[place])
-}
-
-fn ldgeb(place: usize) -> Pass
-    requires { place < 3 }
-    ensures { result ≡ pass_at 3 place }
-{
-    from_row(LDGEB[place])
+    match transform {
+        0 => &RCT,
+        1 => &YCOCG_R,
+        2 => &RDGDB,
+        3 => &LDGEB,
+        _ => &[],
+    }
 }
 
 // How many places a transform has: none, past the last transform.
 pub fn places(transform: u32) -> usize
     ensures { result ≡ places (steps transform) }
 {
-    match transform {
-        0 => RCT.len(),
-        1 => YCOCG_R.len(),
-        2 => RDGDB.len(),
-        3 => LDGEB.len(),
-        _ => 0,
-    }
+    passes(transform).len()
 }
 
 // The pass of a place.
@@ -115,12 +93,7 @@ pub fn pass_at(transform: u32, place: usize) -> Pass
     requires { place < places (steps transform) }
     ensures { result ≡ pass_at transform place }
 {
-    match transform {
-        0 => rct(place),
-        1 => ycocg_r(place),
-        2 => rdgdb(place),
-        _ => ldgeb(place),
-    }
+    passes(transform)[place]
 }
 
 // How many steps a transform has.
@@ -139,26 +112,16 @@ pub fn step_of(transform: u32, place: usize) -> usize
     pass_at(transform, place).step
 }
 
-// How many steps there are up to a pass, if it changes the plane; else up to an earlier one.
-fn last_step(x: Pass, plane: Plane, last: usize) -> usize
-    requires { x.step ≤ 4 }
-    ensures { result ≡ cond (same_plane x.changed plane) (x.step + 1) last }
-{
-    let changed = x.changed;
-    if same_plane(changed, plane) {
-        return x.step + 1;
-    }
-    last
-}
-
 // How many steps a transform has up to the last that changes a plane.
 pub fn last_change(transform: u32, plane: Plane) -> usize
     requires { transform ≤ 3 }
     ensures { result ≡ last_change (steps transform) plane }
 {
     let mut last = 0;
-    for k in 0..places(transform) {
-        last = last_step(pass_at(transform, k), plane, last);
+    for x in passes(transform) {
+        if x.changed == plane {
+            last = x.step + 1;
+        }
     }
     last
 }

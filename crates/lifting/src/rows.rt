@@ -1,96 +1,56 @@
 // Rows of a plane by a step whose places have one filter each, forward or back, in place: one pass over the rows, but for RCT's third step, whose
 // two filtered values take two passes over each row. A step whose places are all null is skipped: it takes none.
-ghost use Rattle.std.specs.Prelude.{◌≡◌, cond, ◌*◌};
+ghost use Rattle.std.specs.Prelude.{◌*◌};
 ghost use Rattle.integers.specs.Lists.{Changed};
-ghost use Rattle.stage.specs.Filter.{filtered};
-ghost use Rattle.stage.specs.Planes.{triple};
-ghost use Rattle.kernel.specs.Pass.{kept_pass, applied};
-ghost use Rattle.kernel.specs.Lifting.{Liftable};
-ghost use Rattle.lifting.specs.Passes.{pass_at, number, first_other, passed, quarter_at};
+ghost use Rattle.stage.specs.Planes.{samples_mut, SameReferences};
+ghost use Rattle.lifting.specs.Passes.{pass_at, passed, quarter_at};
 ghost use Rattle.lifting.specs.Steps.{PassReady, QuarterReady, RowsChanged};
 
-use crate::passes::{Pass, pass_at};
+use crate::passes::pass_at;
 use kernel::lift_rows;
-use kernel::pass::KeptPass;
-use stage::{Form, Plane, Settings, same_plane};
-
-// The kernel's pass forward, or back, and how its result is kept.
-fn kept_pass(x: Pass, back: bool, form: Form, depth: u32) -> KeptPass
-    ensures { result ≡ kept_pass (number back x) form depth }
-{
-    KeptPass {
-        number: if back { x.back } else { x.forward },
-        form: form,
-        depth: depth,
-    }
-}
-
-// The first of the two planes other than one.
-fn first_other(plane: Plane) -> Plane
-    ensures { result ≡ first_other plane }
-{
-    match plane {
-        Plane::C1 => Plane::C2,
-        Plane::C2 => Plane::C1,
-        Plane::C3 => Plane::C1,
-    }
-}
-
-// Rows from .. to − 1 of plane c by a pass with plane a, or else with plane b.
-fn lift_by(
-    c: &mut [i32],
-    a: &[i32],
-    b: &[i32],
-    width: usize,
-    height: usize,
-    first: bool,
-    filter: usize,
-    pass: KeptPass,
-    from: usize,
-    to: usize,
-)
-    requires { Liftable width height filter pass from to (cond first a.now b.now) c.old }
-    ensures { Changed (λ i x. applied pass x (filtered width height filter (cond first a.now b.now) i)) (from * width) (to * width) c.old c.new }
-{
-    if first {
-        lift_rows(c, a, width, height, filter, pass, from, to);
-    } else {
-        lift_rows(c, b, width, height, filter, pass, from, to);
-    }
-}
+use stage::{Form, Plan, Plane, PlanesMut};
 
 // Rows from .. to − 1 of one plane by a step of one place, or back: by the pass of the place under its filter. A null filter leaves
 // them as they are.
 pub(crate) fn lift_plane(
-    c1: &mut [i32],
-    c2: &mut [i32],
-    c3: &mut [i32],
-    settings: Settings,
-    form: Form,
+    planes: &mut PlanesMut,
+    plan: Plan,
     place: usize,
     filter: usize,
     back: bool,
     from: usize,
     to: usize,
 )
-    requires { PassReady settings place filter from to (triple c1.old c2.old c3.old) }
-    ensures { RowsChanged (passed form settings back filter (pass_at settings.transform place) (triple c1.old c2.old c3.old)) (pass_at settings.transform place).changed settings from to (triple c1.old c2.old c3.old) (triple c1.new c2.new c3.new) }
+    requires { PassReady plan.settings place filter from to (samples_mut planes.old) }
+    ensures same { SameReferences planes.old planes.new }
+    ensures rows { RowsChanged (passed plan.form plan.settings back filter (pass_at plan.settings.transform place) (samples_mut planes.old)) (pass_at plan.settings.transform place).changed plan.settings from to (samples_mut planes.old) (samples_mut planes.new) }
 {
     let null = filter == 12;
     if null {
         return;
     }
+    let settings = plan.settings;
     let x = pass_at(settings.transform, place);
-    let n = kept_pass(x, back, form, settings.depths.c1);
+    let n = x.kept(back, plan.form, settings.depths.c1);
     let w = settings.width as usize;
     let h = settings.height as usize;
-    let changed = x.changed;
-    let read = x.read;
-    let first = same_plane(read, first_other(changed));
-    match changed {
-        Plane::C1 => lift_by(c1, c2, c3, w, h, first, filter, n, from, to),
-        Plane::C2 => lift_by(c2, c1, c3, w, h, first, filter, n, from, to),
-        Plane::C3 => lift_by(c3, c1, c2, w, h, first, filter, n, from, to),
+    let c1 = &mut *planes.c1;
+    let c2 = &mut *planes.c2;
+    let c3 = &mut *planes.c3;
+    // an arm for each pair: one plane is lent to be changed while another is read
+    match x.changed {
+        Plane::C1 => match x.read {
+            Plane::C2 => lift_rows(c1, c2, w, h, filter, n, from, to),
+            _ => lift_rows(c1, c3, w, h, filter, n, from, to),
+        },
+        Plane::C2 => match x.read {
+            Plane::C1 => lift_rows(c2, c1, w, h, filter, n, from, to),
+            _ => lift_rows(c2, c3, w, h, filter, n, from, to),
+        },
+        Plane::C3 => match x.read {
+            Plane::C1 => lift_rows(c3, c1, w, h, filter, n, from, to),
+            _ => lift_rows(c3, c2, w, h, filter, n, from, to),
+        },
     }
 }
 
@@ -100,29 +60,27 @@ pub(crate) fn lift_quarter(
     c: &mut [i32],
     a: &[i32],
     b: &[i32],
-    settings: Settings,
-    form: Form,
+    plan: Plan,
     f: usize,
     g: usize,
     back: bool,
     from: usize,
     to: usize,
 )
-    requires { QuarterReady settings f g from to a.now b.now c.old }
-    ensures { Changed (quarter_at form settings.depths.c1 settings.width settings.height back f g a.now b.now) (from * settings.width) (to * settings.width) c.old c.new }
+    requires { QuarterReady plan.settings f g from to a.now b.now c.old }
+    ensures { Changed (quarter_at plan.form plan.settings.depths.c1 plan.settings.width plan.settings.height back f g a.now b.now) (from * plan.settings.width) (to * plan.settings.width) c.old c.new }
 {
     let null = (f == 12) & (g == 12);
     if null {
         return;
     }
-    let first = kept_pass(pass_at(0, 2), back, Form::Plain, settings.depths.c1);
-    let second = kept_pass(pass_at(0, 3), back, form, settings.depths.c1);
+    let settings = plan.settings;
+    let first = pass_at(0, 2).kept(back, Form::Plain, settings.depths.c1);
+    let second = pass_at(0, 3).kept(back, plan.form, settings.depths.c1);
     let w = settings.width as usize;
     let h = settings.height as usize;
-    let mut y = from;
-    while y < to {
+    for y in from..to {
         lift_rows(c, a, w, h, f, first, y, y + 1);
         lift_rows(c, b, w, h, g, second, y, y + 1);
-        y += 1;
     }
 }

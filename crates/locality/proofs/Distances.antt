@@ -6,7 +6,8 @@ use native.Mathlib.Omega.{arith}
 use lib.Dec.{eqb}
 use Rattle.stage.specs.declared.Plane.{Plane}
 use Rattle.stage.specs.declared.Plane.TheVariants.{C1, C2, C3}
-use Rattle.stage.specs.Planes.{Triple, get}
+use Rattle.stage.specs.declared.Triple.{Triple}
+use Rattle.stage.specs.Planes.{get}
 use Rattle.stage.specs.Steps.{Setup, steps}
 use Rattle.locality.specs.Reach.{RadiiUpTo, radius_one, Way, there, back, reach_along, none, furthest, distance}
 use Rattle.locality.specs.Locality.{ReachTable, TransformCutOut, TransformLocal, DamageStays}

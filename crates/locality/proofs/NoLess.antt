@@ -17,7 +17,8 @@ use Rattle.stage.specs.declared.Form.{Form}
 use Rattle.stage.specs.declared.Form.TheVariants.{Plain, Wrapped}
 use Rattle.stage.specs.Answers.{done}
 use Rattle.stage.specs.Settings.{each, settings_of}
-use Rattle.stage.specs.Planes.{Triple, Planes, triple, get, put, map_triple}
+use Rattle.stage.specs.declared.Triple.{Triple}
+use Rattle.stage.specs.Planes.{Planes, triple, get, put, map_triple}
 use Rattle.stage.specs.Filter.{filtered, mean}
 use Rattle.stage.specs.Steps.{places, steps}
 use Rattle.stage.specs.Transform.{transformed, untransformed, forward, inverse}

@@ -7,7 +7,8 @@ use native.Mathlib.Nat.{le_refl}
 use native.Mathlib.Omega.{arith}
 use Rattle.integers.proofs.Lists.{at_mapped}
 use Rattle.stage.specs.declared.Plane.{Plane}
-use Rattle.stage.specs.Planes.{Triple, Planes, get}
+use Rattle.stage.specs.declared.Triple.{Triple}
+use Rattle.stage.specs.Planes.{Planes, get}
 use Rattle.stage.specs.Filter.{filtered}
 use Rattle.stage.specs.Steps.{Setup, Step, Term, ◌ᵈ◌, ◌⊕◌, ◌/2, ◌/4, lifted, step, run, undo, reversed}
 use Rattle.stage.proofs.Triples.{put_both, put-get, get-put}

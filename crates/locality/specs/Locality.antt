@@ -8,7 +8,8 @@ use Rattle.stage.specs.declared.Form.{Form}
 use Rattle.stage.specs.declared.Bands.TheVariants.{One}
 use Rattle.stage.specs.Answers.{Outcome, done}
 use Rattle.stage.specs.Settings.{each, settings_of}
-use Rattle.stage.specs.Planes.{Triple, Planes, triple, get}
+use Rattle.stage.specs.declared.Triple.{Triple}
+use Rattle.stage.specs.Planes.{Planes, triple, get}
 use Rattle.stage.specs.Steps.{Setup, Step, run, steps, transforms}
 use Rattle.stage.specs.Transform.{forward, inverse}
 use Rattle.locality.specs.Reach.{RadiiUpTo, radius_one, reaches, undone_reaches, Way, there, back, along, reach_along, none, furthest, distance}

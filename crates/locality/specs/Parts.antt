@@ -3,7 +3,8 @@
 use Rattle.std.specs.Prelude.{◌≡◌, List, ℕ, ◌+◌, ◌*◌, ◌-◌, ◌/◌, ◌%◌, ◌≤◌, ◌<◌, ℤ, pos, length, replicate}
 use Rattle.integers.specs.Lists.{at, map_indexed}
 use Rattle.stage.specs.declared.Plane.{Plane}
-use Rattle.stage.specs.Planes.{Triple, Planes, get, map_triple}
+use Rattle.stage.specs.declared.Triple.{Triple}
+use Rattle.stage.specs.Planes.{Planes, get, map_triple}
 use Rattle.stage.specs.Steps.{Setup}
 
 -- the index of the pixel at column x and row y, and the same number in all three planes of two pictures at indices i and j

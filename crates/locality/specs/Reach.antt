@@ -1,7 +1,8 @@
 -- How far steps reach (02, request 10), computed from the steps as ranges are. r is a reach for each plane: its number at a spot depends only on
 -- what stood at most so many rows and columns away. ρ k is a radius for place k.
 use Rattle.std.specs.Prelude.{cond, ◌||◌, List, [], ◌∷◌, ℕ, ◌+◌, ◌≤◌, max, eqb, get_or}
-use Rattle.stage.specs.Planes.{Triple, Planes, triple, get, put}
+use Rattle.stage.specs.declared.Triple.{Triple}
+use Rattle.stage.specs.Planes.{Planes, triple, get, put}
 use Rattle.stage.specs.Steps.{Setup, Step, Term, ◌ᵈ◌, ◌⊕◌, ◌/2, ◌/4, run, undo, reversed}
 
 -- A filter's radius: filters 1 to 11 take the mean of the 3 × 3 window, one row and one column around; filter 0 gives the sample itself, filter

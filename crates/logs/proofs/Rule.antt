@@ -1,5 +1,5 @@
 -- The power-of-two rule over a whole list: one test that is computed, and one law that carries it to each entry.
-use mathlib.Core.Path.{◌≡◌}
+use mathlib.Core.Path.{◌≡◌, refl}
 use mathlib.Core.Bool.{Bool, true, ◌&&◌}
 use mathlib.Core.List.{List, [], ◌∷◌}
 use Prim.Native.Nat.{ℕ, zero, suc, ◌+◌, ◌-◌, ◌^◌, ◌<◌}
@@ -9,6 +9,7 @@ use lib.ListN.{length, get_or}
 use mir.Facts.{and_yes}
 use Rattle.stage.specs.Logarithm.{L, Logarithms}
 use Rattle.stage.proofs.Logarithm.{log_is}
+use Rattle.logs.specs.Lookup.{TableOfLogarithms}
 
 -- x has the bounds of L n
 abbrev bounded : ℕ → ℕ → Bool
@@ -33,3 +34,7 @@ carried (x ∷ t) n (suc k) m r e h = carried t (suc n) k m (and_yes (bounded n 
 -- a list of 4,096 entries that passes the test is 01's table
 pub logarithms : (t : List ℕ) → T (ruled 1 t) → length t ≡ 4096 → Logarithms t
 logarithms t r e = record { each = λ n low high. carried t 1 (n - 1) n r (omega arith) (omega arith) }
+
+-- every entry passes the test of the power-of-two rule
+pub table_is : TableOfLogarithms
+table_is = logarithms _ tt refl

@@ -1,7 +1,7 @@
 -- A sample of a raster by its place: pixel `index`, `offset` samples into it, is sample 3 × index + offset. And the size of a sample by its
 -- depth.
 use mathlib.Core.Path.{◌≡◌, sym, ap, ◌∙◌}
-use mathlib.Core.Bool.{true, false}
+use mathlib.Core.Bool.{false}
 use mathlib.Core.List.{List}
 use Prim.Native.Nat.{ℕ, ◌+◌, ◌*◌, ◌-◌, ◌^◌, ◌≤◌, ◌<◌}
 use native.Mathlib.Omega.{arith}
@@ -9,14 +9,11 @@ use lib.Dec.{ltb}
 use lib.IntN.{pos}
 use lib.ListN.{length, get_or, get_or-eq_default}
 use lib.Pow.{pow_mono}
-use borrow.Author.Tests.{lt-ltb, le-ltb}
+use borrow.Author.Tests.{le-ltb}
 use Rattle.pixmap.proofs.Rasters.{sample_at_lem}
 use Rattle.picture.specs.OnFile.{samples_at, sample_of}
 
--- M is below 256 up to depth 8
-pub one_byte : (b : ℕ) → b ≤ 8 → ltb (2 ^ b - 1) 256 ≡ true
-one_byte b h = lt-ltb (2 ^ b - 1) 256 (omega (arith, pow_mono h))
-
+-- M is 256 or more above depth 8
 pub two_bytes : (b : ℕ) → 8 < b → ltb (2 ^ b - 1) 256 ≡ false
 two_bytes b h = le-ltb (2 ^ b - 1) 256 (omega (arith, pow_mono h))
 

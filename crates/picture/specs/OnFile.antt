@@ -2,17 +2,17 @@
 use Rattle.std.specs.Prelude.{◌≡◌, List, ℕ, ℤ, drop}
 use Rattle.std.specs.Borrow.{Bor}
 use Rattle.integers.specs.Lists.{at}
+use Rattle.stage.specs.declared.Header.{Header}
 use Rattle.stage.specs.Answers.{Reply, done, refused}
 use Rattle.stage.specs.Ranges.{max_sample}
 use Rattle.stage.specs.Raster.{raster_samples}
-use Rattle.stage.specs.Pixmap.{Header, header_of, raster_of, every_third}
+use Rattle.stage.specs.Pixmap.{header_of, raster_of, every_third}
 use Rattle.pixmap.specs.Parts.{PartOf}
-use Rattle.picture.specs.declared.Numbers.{Numbers}
 use Rattle.picture.specs.declared.Picture.{Picture}
 
 -- the header's numbers, all 0 where it is refused
-abbrev pub numbers_of : Reply Header → Numbers
-numbers_of (done h) = record { width = h.width; height = h.height; depth = h.depth }
+abbrev pub numbers_of : Reply Header → Header
+numbers_of (done h) = h
 numbers_of (refused n) = record { width = 0; height = 0; depth = 0 }
 
 -- the samples of a raster at depth b

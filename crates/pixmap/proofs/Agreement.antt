@@ -8,19 +8,20 @@ use Prim.Native.Nat.{ℕ, ◌*◌, ◌-◌, ◌^◌, ◌≤◌}
 use native.Mathlib.Nat.{mul-le-mul}
 use native.Mathlib.Omega.{arith}
 use lib.Dec.{ltb}
-use lib.IntN.{ℤ}
 use lib.ListN.{length, length-append}
 use borrow.Author.Tests.{eq-eqb}
-use Rattle.stage.specs.declared.Answer.{Answer}
+use Rattle.std.specs.Prelude.{Result, Ok}
+use Rattle.stage.specs.declared.Header.{Header}
 use Rattle.stage.specs.declared.Kind.{Kind}
 use Rattle.stage.specs.declared.Kind.TheVariants.{Pixmap}
+use Rattle.stage.specs.declared.Refusal.{Refusal}
 use Rattle.stage.specs.Answers.{Reply, done, refused, refusal, Outcome, outcome_of}
-use Rattle.stage.specs.Planes.{Planes, triple}
+use Rattle.stage.specs.Planes.{Planes}
 use Rattle.stage.specs.Transform.{lengths, all_equal}
 use Rattle.stage.specs.Raster.{sample_bytes}
-use Rattle.stage.specs.Pixmap.{HeaderText, header_text, letter, pixel_samples, depth_of, file_tests, file_of, Header, text_header, header_by, header_of, raster_by, raster_of, raster_planes, planes_of}
+use Rattle.stage.specs.Pixmap.{HeaderText, header_text, letter, pixel_samples, depth_of, file_tests, file_of, text_header, header_by, header_of, raster_by, raster_of, raster_planes, planes_of}
 use Rattle.stage.specs.Grammar.{IsField, IsFile}
-use Rattle.stage.proofs.Answers.{done_refusal, decides}
+use Rattle.stage.proofs.Answers.{done_refusal, decides, reply_ok}
 use Rattle.pixmap.specs.Agreement.{FilesAgree, PixmapsAgree}
 use Rattle.pixmap.proofs.Depths.{depth_means, means_depth, depth_maxval}
 use Rattle.pixmap.proofs.Maxvals.{has_depth, takes_iff}
@@ -139,15 +140,17 @@ module _ (file : List ℕ) where
         omega (arith, raster_least, ap length i.letters, field_shorter i.is_width, field_shorter i.is_height, field_shorter i.is_maxval)
 
     -- planes of the picture's size hold the raster once they are filled
-    pub filled_planes : (lent : Planes) (r : Answer) (p1 p2 p3 : List ℤ) → all_equal (v.width * v.height) (lengths lent) ≡ true → outcome_of r (triple p1 p2 p3) ≡ planes_of file lent
-        → triple p1 p2 p3 ≡ raster_planes v.depth (raster_of file)
+    pub filled_planes : (lent p : Planes) (r : Result (Unit {0}) Refusal) → all_equal (v.width * v.height) (lengths lent) ≡ true → outcome_of r p ≡ planes_of file lent
+        → (r ≡ Ok tt) × (p ≡ raster_planes v.depth (raster_of file))
     unfolding planes_of
-    filled_planes lent r p1 p2 p3 l q =
+    filled_planes lent p r l q =
         let lengths-hold = ap (λ (x : Header). all_equal (x.width * x.height) (lengths lent)) same_header ∙ l in
         let result = raster_planes (depth_of t.maxval) t.rest in
         let d = decides (file_tests Pixmap t) _ 8 (tt {0}) result lent (tt, (tt, (tt, (tt, (tt, tt))))) 0 (sym (tests_pass Pixmap file t is_read)) in
-        ap (λ (o : Outcome (Unit {0}) Planes). o.memory) (q ∙ sym (d.succeeds refl lengths-hold tt result refl refl))
-        ∙ ap₂ (λ (x : Header) (raster : List ℕ). raster_planes x.depth raster) same_header same_raster
+        let e = q ∙ sym (d.succeeds refl lengths-hold tt result refl refl) in (
+          reply_ok r tt (ap (λ (o : Outcome (Unit {0}) Planes). o.reply) e),
+          ap (λ (o : Outcome (Unit {0}) Planes). o.memory) e ∙ ap₂ (λ (x : Header) (raster : List ℕ). raster_planes x.depth raster) same_header same_raster,
+        )
 
   -- every pixmap is accepted with its depth
   depth_told : (w h d : ℕ) (r : List ℕ) → 2 ≤ d → d ≤ 16 → IsFile Pixmap file w h (2 ^ d - 1) r → (header_of file ≡ done (record { width = w; height = h; depth = d })) × (raster_of file ≡ r)

@@ -3,6 +3,7 @@ pub mod Depths
 pub mod Maxvals
 pub mod Refusals
 pub mod Rasters
+pub mod Tested
 pub mod Parsing
 pub mod Filling
 pub mod Stretches

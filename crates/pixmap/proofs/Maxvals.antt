@@ -2,17 +2,15 @@
 use mathlib.Core.Path.{◌≡◌, refl, sym, ap, ◌∙◌}
 use mathlib.Core.Bool.{Bool, true, false, not}
 use mathlib.Core.Logic.{◌↔◌}
-use Prim.Native.Nat.{ℕ, ◌*◌, ◌≤◌, ◌<◌, min}
-use native.Mathlib.Nat.{mul-le-mul}
+use Prim.Native.Nat.{ℕ, ◌≤◌, ◌<◌, min}
 use native.Mathlib.Omega.{arith}
-use lib.Dec.{leb, eqb, lit≤}
+use lib.Dec.{leb, eqb}
 use borrow.Author.Tests.{not-true, leb-true, leb-false, eqb-true, eqb-false, eq-eqb, ne_eqb, le-ltb}
 use Rattle.stage.specs.declared.Kind.{Kind}
 use Rattle.stage.specs.declared.Kind.TheVariants.{Pixmap, Graymap}
 use Rattle.stage.specs.Raster.{sample_bytes}
-use Rattle.stage.specs.Pixmap.{pixel_samples, depth_of, takes}
+use Rattle.stage.specs.Pixmap.{depth_of, takes}
 use Rattle.stage.specs.Grammar.{Takes}
-use Rattle.raster.proofs.Pairs.{bytes_most}
 use Rattle.pixmap.specs.Parsed.{Readable}
 use Rattle.pixmap.proofs.Depths.{depth_means, means_depth, depth_maxval}
 
@@ -53,11 +51,3 @@ bytes_kept m = by (leb m 100000) refl
     by : (t : Bool) → leb m 100000 ≡ t → sample_bytes (min m 100000) ≡ sample_bytes m
     by true e = let k : min m 100000 ≡ m = omega (arith, leb-true m 100000 e) in rw k
     by false e = let l = leb-false m 100000 e in rw (le-ltb (min m 100000) 256 (omega arith), le-ltb m 256 (omega arith))
-
--- ---- a pixel has at most six bytes
-pub pixel_most : (k : Kind) (m : ℕ) → pixel_samples k * sample_bytes m ≤ 6
-pixel_most k m = mul-le-mul (few k) (bytes_most m)
-  where
-    few : (k : Kind) → pixel_samples k ≤ 3
-    few Pixmap = lit≤ tt
-    few (Graymap n) = lit≤ tt

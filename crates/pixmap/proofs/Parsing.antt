@@ -1,71 +1,76 @@
 -- From the text of a header to the answer and the raster.
-use mathlib.Core.Path.{◌≡◌, sym, ap, ◌∙◌}
-use mathlib.Core.Bool.{Bool}
+use mathlib.Core.Path.{◌≡◌, refl, sym, ap, ◌∙◌}
+use mathlib.Core.Bool.{Bool, true, false, cond}
 use mathlib.Core.List.{List, []}
-use Prim.Native.Nat.{ℕ, ◌*◌}
+use Prim.Native.Nat.{ℕ}
 use native.Mathlib.Omega.{arith}
-use lib.ListN.{length, drop}
-use borrow.Author.Tests.{eq-eqb, ne_eqb}
+use borrow.Author.Tests.{ne_eqb}
+use Rattle.std.specs.Borrow.{Bor}
 use Rattle.stage.specs.declared.Kind.{Kind}
 use Rattle.stage.specs.declared.Kind.TheVariants.{Pixmap}
-use Rattle.stage.specs.Answers.{done, refused, refusal}
-use Rattle.stage.specs.Raster.{sample_bytes}
-use Rattle.stage.specs.Pixmap.{HeaderText, header_text, letter, pixel_samples, takes, header_tests, file_tests, file_of, text_header, header_by, header_of, raster_by, raster_of}
-use Rattle.pixmap.specs.declared.header_text.Fields.{Fields}
-use Rattle.pixmap.specs.declared.Parsed.{Parsed}
-use Rattle.pixmap.specs.HeaderFields.{FieldsOf}
-use Rattle.pixmap.specs.Parsed.{Readable, ParsedOf}
+use Rattle.stage.specs.declared.Refusal.{Refusal}
+use Rattle.stage.specs.Answers.{done, refused, refusal, number_of, sized}
+use Rattle.stage.specs.Pixmap.{HeaderText, header_text, letter, file_tests, file_of, text_header, header_by, header_of, raster_by, raster_of}
+use Rattle.stage.proofs.Answers.{number_positive}
+use Rattle.pixmap.specs.declared.header_text.Parsed.{Parsed}
+use Rattle.pixmap.specs.HeaderFields.{TextOf}
+use Rattle.pixmap.specs.Parsed.{text_tests, Readable, Accepted}
 use Rattle.pixmap.proofs.Maxvals.{taken_most, takes_kept, bytes_kept}
-use Rattle.pixmap.proofs.Refusals.{is_sized, is_taken, sized_kept, refusal_kept}
+use Rattle.pixmap.proofs.Refusals.{is_sized, is_taken, sized_kept, size_kept}
 
-module _ (k : Kind) (file rest : List ℕ) (t : Fields) (taken : Bool) (pixel n : ℕ) where
+past_size : (b : Bool) {m n : ℕ} → (b ≡ true → m ≡ n) → cond b m 2 ≡ cond b n 2
+past_size true e = e refl
+past_size false e = refl
+
+module _ (k : Kind) (file : Bor (List ℕ)) (r : Parsed) (readable : Readable k) (a : TextOf (letter k) file r) where
   abbrev T : HeaderText
-  T = header_text (letter k) file
+  T = header_text (letter k) file.now
 
-  pub parsed_read : Readable k → FieldsOf (letter k) file t → taken ≡ takes k t.maxval → pixel ≡ pixel_samples k * sample_bytes t.maxval → rest ≡ drop 1 (drop t.at file)
-      → n ≡ refusal (header_tests t.formed t.width t.height taken pixel (length rest))
-      → ParsedOf k file (record { refusal = n; width = t.width; height = t.height; maxval = t.maxval; at = t.at })
-  parsed_read readable a g p r h =
-      let g_is : taken ≡ takes k T.maxval = g ∙ ap (takes k) a.maxval_is ∙ takes_kept k T.maxval readable in
-      let p_is : pixel ≡ pixel_samples k * sample_bytes T.maxval = p ∙ ap (λ (m : ℕ). pixel_samples k * sample_bytes m) a.maxval_is ∙ ap (λ (m : ℕ). pixel_samples k * m) (bytes_kept T.maxval) in
-      let l_is : rest ≡ T.rest = r ∙ a.rest_is in
-      let n_is : n ≡ refusal (file_tests k T) =
-      h ∙ rw (a.formed_is, a.width_is, a.height_is, g_is, p_is, l_is) (refusal_kept T.formed (takes k T.maxval) (pixel_samples k * sample_bytes T.maxval) (length T.rest) T.width T.height) in
+  -- the tests of the header as it was read are those of its text
+  pub tests_kept : refusal (text_tests k r) ≡ refusal (file_tests k T)
+  tests_kept =
+      rw (a.is_formed, a.width_is, a.height_is, size_kept T.width T.height, a.maxval_is, takes_kept k T.maxval readable, bytes_kept T.maxval, a.raster_is.bytes_are)
+      (past_size (sized T.width T.height) (λ e. let kept = sized_kept T.width T.height e in rw (kept.0, kept.1)))
+
+  pub accepted : 0 ≡ refusal (text_tests k r) → Accepted k file r
+  accepted e =
+      let passes : refusal (file_tests k T) ≡ 0 = sym (e ∙ tests_kept) in
+      let kept = sized_kept T.width T.height (is_sized k T passes) in
       record {
-        refusal_is = n_is;
-        width_is = λ z. a.width_is ∙ (sized_kept T.width T.height (is_sized k T (sym n_is ∙ z))).0;
-        height_is = λ z. a.height_is ∙ (sized_kept T.width T.height (is_sized k T (sym n_is ∙ z))).1;
-        maxval_is = λ z. omega (arith, a.maxval_is, taken_most k T.maxval readable (is_taken k T (sym n_is ∙ z)));
-        rest_is = a.rest_is;
+        passes = passes;
+        width_is = a.width_is ∙ kept.0;
+        height_is = a.height_is ∙ kept.1;
+        maxval_is = omega (arith, a.maxval_is, taken_most k T.maxval readable (is_taken k T passes));
+        raster_is = a.raster_is;
       }
 
 -- ---- a file that is refused, and one that is not
-module _ {k : Kind} {file : List ℕ} {r : Parsed} (s : ParsedOf k file r) where
-  pub parsed_refused : (r.refusal ≡ 0 → ⊥) → refused r.refusal ≡ file_of k file
-  unfolding file_of
-  parsed_refused h = rw (← s.refusal_is, ne_eqb r.refusal 0 h)
+module _ (k : Kind) (file : List ℕ) where
+  abbrev t : HeaderText
+  t = header_text (letter k) file
 
-  pub parsed_done : r.refusal ≡ 0 → done (header_text (letter k) file) ≡ file_of k file
+  pub file_refused : (e : Refusal) → number_of e ≡ refusal (file_tests k t) → refused (number_of e) ≡ file_of k file
   unfolding file_of
-  parsed_done h = rw (← s.refusal_is, eq-eqb r.refusal 0 h)
+  file_refused e h = rw (← h, ne_eqb (number_of e) 0 (number_positive e))
 
-  pub passes : r.refusal ≡ 0 → refusal (file_tests k (header_text (letter k) file)) ≡ 0
-  passes h = sym s.refusal_is ∙ h
+  pub file_accepted : refusal (file_tests k t) ≡ 0 → done t ≡ file_of k file
+  unfolding file_of
+  file_accepted h = rw h
 
 -- ---- of a pixmap
-module _ {file : List ℕ} {r : Parsed} (s : ParsedOf Pixmap file r) where
-  pub header_refused : (r.refusal ≡ 0 → ⊥) → refused r.refusal ≡ header_of file
+module _ (file : List ℕ) where
+  pub header_refused : (e : Refusal) → number_of e ≡ refusal (file_tests Pixmap (header_text 54 file)) → refused (number_of e) ≡ header_of file
   unfolding header_of
-  header_refused h = ap header_by (parsed_refused s h)
+  header_refused e h = ap header_by (file_refused Pixmap file e h)
 
-  pub header_done : r.refusal ≡ 0 → done (text_header (header_text 54 file)) ≡ header_of file
+  pub header_accepted : refusal (file_tests Pixmap (header_text 54 file)) ≡ 0 → done (text_header (header_text 54 file)) ≡ header_of file
   unfolding header_of
-  header_done h = ap header_by (parsed_done s h)
+  header_accepted h = ap header_by (file_accepted Pixmap file h)
 
-  pub raster_none : (r.refusal ≡ 0 → ⊥) → [] ≡ raster_of file
+  pub raster_none : (e : Refusal) → number_of e ≡ refusal (file_tests Pixmap (header_text 54 file)) → [] ≡ raster_of file
   unfolding raster_of
-  raster_none h = ap raster_by (parsed_refused s h)
+  raster_none e h = ap raster_by (file_refused Pixmap file e h)
 
-  pub raster_read : r.refusal ≡ 0 → drop 1 (drop r.at file) ≡ raster_of file
+  pub raster_read : refusal (file_tests Pixmap (header_text 54 file)) ≡ 0 → (header_text 54 file).rest ≡ raster_of file
   unfolding raster_of
-  raster_read h = s.rest_is ∙ ap raster_by (parsed_done s h)
+  raster_read h = ap raster_by (file_accepted Pixmap file h)

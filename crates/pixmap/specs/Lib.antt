@@ -1,4 +1,3 @@
-pub mod Replies
 pub mod Parts
 pub mod HeaderFields
 pub mod Parsed

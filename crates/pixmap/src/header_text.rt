@@ -1,113 +1,122 @@
-// The text of a header. A place may lie anywhere, also behind the file's end, where the text is empty.
+// The text of a header. A place may lie anywhere, also behind the file's end, where the text is empty: so it
+// is a number and no slice.
 ghost use Rattle.std.specs.Prelude.{◌≡◌, false, drop};
 ghost use Rattle.stage.specs.Pixmap.{is_white, ends_comment, ends_stretch, stays_inside, after_stretch, first};
 ghost use Rattle.pixmap.specs.Parts.{PartOf};
-ghost use Rattle.pixmap.specs.HeaderFields.{FieldAt, FieldsOf};
+ghost use Rattle.pixmap.specs.HeaderFields.{FieldRead, TextRead};
 
-// Whether a field is of the form; its number, or 100,000 where that is larger; and the place behind it.
-#[derive(Clone, Copy)]
+// The number of a field, or 100,000 where that is larger; and the place behind it.
+#[derive(Clone, Copy, Debug, PartialEq, Eq)]
 struct Field {
-    formed: bool,
     value: u32,
     at: usize,
 }
 
-// A header's three fields, and whether all of it is of the form; the place is that of the last white space byte.
+// A header's three numbers, each as a field has it, and what stands behind the header.
 #[derive(Clone, Copy)]
-pub struct Fields {
-    pub formed: bool,
+pub struct Parsed<'a> {
     pub width: u32,
     pub height: u32,
     pub maxval: u32,
-    pub at: usize,
+    pub raster: &'a [u8],
 }
 
+#[tactic(auto, unfolding(stage::specs::Pixmap::is_white))]
 fn is_white(b: u8) -> bool
     ensures { result ≡ is_white b }
 {
-    (b == 32) | ((9 <= b) & (b <= 13))
+    (b == b' ') | ((9 <= b) & (b <= 13))
 }
 
 fn ends_comment(b: u8) -> bool
     ensures { result ≡ ends_comment b }
 {
-    (b == 10) | (b == 13)
+    (b == b'\n') | (b == b'\r')
 }
 
+#[tactic(auto, unfolding(stage::specs::Pixmap::ends_stretch))]
 fn ends_stretch(inside: bool, b: u8) -> bool
     ensures { result ≡ ends_stretch inside b }
 {
-    !(inside | is_white(b) | (b == 35))
+    !(inside | is_white(b) | (b == b'#'))
 }
 
+#[tactic(auto, unfolding(stage::specs::Pixmap::stays_inside))]
 fn stays_inside(inside: bool, b: u8) -> bool
     ensures { result ≡ stays_inside inside b }
 {
-    if inside { !ends_comment(b) } else { b == 35 }
+    if inside { !ends_comment(b) } else { b == b'#' }
 }
 
 // The byte at a place, and 0 behind the end.
 fn byte(file: &[u8], at: usize) -> u8
     ensures { result ≡ first (drop at file.now) }
 {
-    if at < file.len() { file[at] } else { 0 }
+    file.get(at).copied().unwrap_or(0)
 }
 
-// Where the stretch of white space and comments that begins at `at` ends.
+// Where the stretch of white space and comments that begins at `at` ends. A `for` and no chain: `inside` goes along from byte to byte.
+#[tactic(auto, using(crate::proofs::HeaderFields::ends_here, crate::proofs::HeaderFields::goes_here, crate::proofs::HeaderFields::file_ends))]
 fn skip_stretch(file: &[u8], at: usize) -> usize
     ensures { drop result file.now ≡ after_stretch false (drop at file.now) }
 {
-    let mut i = at;
     let mut inside = false;
-    while i < file.len() {
+    for i in at..file.len() {
         let b = file[i];
         if ends_stretch(inside, b) {
             return i;
         }
         inside = stays_inside(inside, b);
-        i += 1;
     }
-    i
+    file.len()
 }
 
-fn read_field(file: &[u8], at: usize) -> Field
-    ensures { FieldAt file.now at result }
+// The field at a place, if what stands there is of the form.
+#[tactic(auto, using(crate::proofs::HeaderFields::field_unspaced, crate::proofs::HeaderFields::field_none))]
+fn read_field(file: &[u8], at: usize) -> Option<Field>
+    ensures { FieldRead file.now at result }
 {
-    let s = skip_stretch(file, at);
-    let n = text::read_number(file, s, file.len(), 100000);
-    Field {
-        formed: is_white(byte(file, at)) & (n.digits != 0),
+    if !is_white(byte(file, at)) {
+        return None;
+    }
+    let n = text::read_number(file, skip_stretch(file, at), file.len(), 100000)?;
+    Some(Field {
         value: n.value as u32,
         at: n.at,
-    }
-}
-
-// The header of a file whose second letter is to be `letter`.
-pub fn read_fields(file: &[u8], letter: u8) -> Fields
-    ensures { FieldsOf letter file.now result }
-{
-    let w = read_field(file, 2);
-    let h = read_field(file, w.at);
-    let m = read_field(file, h.at);
-    let letters = (byte(file, 0) == 80) & (byte(file, 1) == letter);
-    Fields {
-        formed: letters & w.formed & h.formed & m.formed & is_white(byte(file, m.at)),
-        width: w.value,
-        height: h.value,
-        maxval: m.value,
-        at: m.at,
-    }
+    })
 }
 
 // What stands behind the byte at `at`: a part of the lent file, which is its last bytes.
-pub fn part_behind(file: &[u8], at: usize) -> &[u8]
+#[tactic(auto, using(crate::proofs::HeaderFields::part_pointer, crate::proofs::HeaderFields::part_behind))]
+fn part_behind(file: &[u8], at: usize) -> &[u8]
     ensures { PartOf file.entry (drop 1 (drop at file.now)) result }
 {
     if at < file.len() {
         let s = at + 1;
         &file[s..]
     } else {
-        let n = file.len();
-        &file[n..]
+        &file[file.len()..]
     }
+}
+
+// The header of a file whose second letter is to be `letter`, if it is of the form.
+pub fn read_header(file: &[u8], letter: u8) -> Option<Parsed>
+    ensures { TextRead letter file.entry result }
+{
+    let letters = (byte(file, 0) == b'P') & (byte(file, 1) == letter);
+    if !letters {
+        return None;
+    }
+    let w = read_field(file, 2)?;
+    let h = read_field(file, w.at)?;
+    let m = read_field(file, h.at)?;
+    if !is_white(byte(file, m.at)) {
+        return None;
+    }
+    Some(Parsed {
+        width: w.value,
+        height: h.value,
+        maxval: m.value,
+        raster: part_behind(file, m.at),
+    })
 }

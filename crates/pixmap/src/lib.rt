@@ -2,46 +2,33 @@
 // graymap is read by the same functions.
 #![tactic(auto)]
 
-mod answers;
 mod header_text;
 
-ghost use Rattle.std.specs.Prelude.{◌≡◌, ◌≤◌};
-ghost use Rattle.stage.specs.Answers.{refusal, outcome_of};
-ghost use Rattle.stage.specs.Planes.{triple};
-ghost use Rattle.stage.specs.Pixmap.{letter, pixel_samples, depth_of, takes, header_tests, header_of, raster_of, planes_of};
-ghost use Rattle.pixmap.specs.Replies.{header_reply};
+ghost use Rattle.std.specs.Prelude.{◌≡◌, ◌<◌, MatchOption};
+ghost use Rattle.stage.specs.Answers.{refusal, number, reply_of, outcome_of};
+ghost use Rattle.stage.specs.Planes.{samples_mut, SameReferences};
+ghost use Rattle.stage.specs.Pixmap.{letter, pixel_samples, depth_of, takes, header_of, raster_of, planes_of};
 ghost use Rattle.pixmap.specs.Parts.{PartOf};
-ghost use Rattle.pixmap.specs.Parsed.{Readable, ParsedOf};
+ghost use Rattle.pixmap.specs.Parsed.{text_tests, Readable, ParsedOf};
 
-pub use answers::Header;
-pub use header_text::part_behind;
+pub use header_text::Parsed;
 use raster::{fill, sample_bytes};
-use stage::{Answer, Kind};
+use stage::{Header, Kind, PlanesMut, Refusal, all_equal, is_sized, require};
 
-// A file's first refusal, or 0; its header's numbers; and the place of the header's last byte.
-#[derive(Clone, Copy)]
-pub struct Parsed {
-    pub refusal: u32,
-    pub width: u32,
-    pub height: u32,
-    pub maxval: u32,
-    pub at: usize,
-}
-
-// The depth of a maxval, and 0 where it has none.
-fn depth_of(maxval: u32) -> u32
-    ensures { result ≡ depth_of maxval }
+// The depth of a maxval.
+#[tactic(auto, using(integers::proofs::Tests::shifted, crate::proofs::Depths::depth_found, crate::proofs::Depths::depth_next, crate::proofs::Depths::depth_none))]
+fn depth_of(maxval: u32) -> Option<u32>
+    ensures { MatchOption result (depth_of maxval ≡ 0) (λ d. (d ≡ depth_of maxval) × (0 < d)) }
 {
-    let mut b: u32 = 2;
-    while b <= 16 {
+    for b in 2..17 {
         if maxval == (1u32 << b) - 1 {
-            return b;
+            return Some(b);
         }
-        b += 1;
     }
-    0
+    None
 }
 
+// Of a kind of file; methods would need a trait of one impl, as `Kind` is another crate's.
 fn letter(kind: Kind) -> u8
     ensures { result ≡ letter kind }
 {
@@ -64,98 +51,68 @@ fn takes(kind: Kind, maxval: u32) -> bool
     ensures { result ≡ takes kind maxval }
 {
     match kind {
-        Kind::Pixmap => depth_of(maxval) != 0,
+        Kind::Pixmap => depth_of(maxval).is_some(),
         Kind::Graymap(n) => maxval == n,
     }
 }
 
-// The first test that fails, or 0, for pixels of `pixel` bytes.
-fn first_refusal(
-    formed: bool,
-    width: u32,
-    height: u32,
-    taken: bool,
-    pixel: u32,
-    bytes: usize,
-) -> u32
-    requires { pixel ≤ 6 }
-    ensures { result ≡ refusal (header_tests formed width height taken pixel bytes) }
+// The tests of a header that is of the form.
+fn check(p: Parsed, kind: Kind) -> Result<(), Refusal>
+    ensures { number (reply_of result) ≡ refusal (text_tests kind p.entry) }
 {
-    if !formed {
-        return 1;
-    }
-    if !stage::is_sized(width, height) {
-        return 2;
-    }
-    if !taken {
-        return 3;
-    }
-    if bytes != (pixel * width * height) as usize {
-        return 4;
-    }
-    0
+    require(is_sized(p.width, p.height), Refusal::Size)?;
+    require(takes(kind, p.maxval), Refusal::Maxval)?;
+    let pixel = pixel_samples(kind) * sample_bytes(p.maxval);
+    let bytes = (pixel * p.width * p.height) as usize;
+    require(p.raster.len() == bytes, Refusal::Raster)
 }
 
 // Reads the header of a file that is to be of this kind, and makes the tests of it.
-pub fn parse(file: &[u8], kind: Kind) -> Parsed
+#[tactic(auto, using(crate::proofs::Parsing::tests_kept))]
+pub fn parse(file: &[u8], kind: Kind) -> Result<Parsed, Refusal>
     requires { Readable kind }
-    ensures { ParsedOf kind file.now result }
+    ensures { ParsedOf kind file.entry result }
 {
-    let f = header_text::read_fields(file, letter(kind));
-    let pixel = pixel_samples(kind) * sample_bytes(f.maxval);
-    let taken = takes(kind, f.maxval);
-    let rest = part_behind(file, f.at);
-    Parsed {
-        refusal: first_refusal(f.formed, f.width, f.height, taken, pixel, rest.len()),
-        width: f.width,
-        height: f.height,
-        maxval: f.maxval,
-        at: f.at,
-    }
+    let p = header_text::read_header(file, letter(kind)).ok_or(Refusal::Header)?;
+    check(p, kind)?;
+    Ok(p)
 }
 
 // Width, height and depth of a pixmap, or the first refusal that applies.
-pub fn header(file: &[u8]) -> Header
-    ensures { header_reply result ≡ header_of file.now }
+#[tactic(auto, using(crate::proofs::Parsing::header_refused, crate::proofs::Parsing::header_accepted))]
+pub fn header(file: &[u8]) -> Result<Header, Refusal>
+    ensures { reply_of result ≡ header_of file.now }
 {
-    let p = parse(file, Kind::Pixmap);
-    if p.refusal != 0 {
-        return Header::Refused(p.refusal);
-    }
-    Header::Picture {
+    let p = parse(file, Kind::Pixmap)?;
+    let depth = depth_of(p.maxval).ok_or(Refusal::Maxval)?;
+    Ok(Header {
         width: p.width,
         height: p.height,
-        depth: depth_of(p.maxval),
-    }
+        depth,
+    })
 }
 
 // The raster itself, the last bytes of the lent file; empty where the header is refused.
+#[tactic(auto, using(crate::proofs::Parsing::raster_read))]
 pub fn raster(file: &[u8]) -> &[u8]
     ensures { PartOf file.entry (raster_of file.now) result }
 {
-    let p = parse(file, Kind::Pixmap);
-    if p.refusal != 0 {
-        let n = file.len();
-        return &file[n..];
+    match parse(file, Kind::Pixmap) {
+        Ok(p) => p.raster,
+        Err(_) => &file[file.len()..],
     }
-    part_behind(file, p.at)
 }
 
 // The three planes of a pixmap. A refusal leaves them as they were lent.
-pub fn planes(file: &[u8], c1: &mut [i32], c2: &mut [i32], c3: &mut [i32]) -> Answer
-    ensures { outcome_of result (triple c1.new c2.new c3.new) ≡ planes_of file.now (triple c1.old c2.old c3.old) }
+pub fn planes(file: &[u8], planes: &mut PlanesMut) -> Result<(), Refusal>
+    ensures same { SameReferences planes.old planes.new }
+    ensures filled { outcome_of result (samples_mut planes.new) ≡ planes_of file.now (samples_mut planes.old) }
 {
-    let p = parse(file, Kind::Pixmap);
-    if p.refusal != 0 {
-        return Answer::Refused(p.refusal);
-    }
-    let n = p.width as usize * p.height as usize;
-    if !stage::all_equal(n, c1.len(), c2.len(), c3.len()) {
-        return Answer::Refused(8);
-    }
-    let rest = part_behind(file, p.at);
-    fill(c1, rest, p.maxval, 3, 0, 0);
-    fill(c2, rest, p.maxval, 3, 1, 0);
-    fill(c3, rest, p.maxval, 3, 2, 0);
-    Answer::Done
+    let p = parse(file, Kind::Pixmap)?;
+    let pixels = p.width as usize * p.height as usize;
+    require(all_equal(pixels, planes.shared().lengths()), Refusal::Plane)?;
+    fill(planes.c1, p.raster, p.maxval, 3, 0, 0);
+    fill(planes.c2, p.raster, p.maxval, 3, 1, 0);
+    fill(planes.c3, p.raster, p.maxval, 3, 2, 0);
+    Ok(())
 }

@@ -1,17 +1,16 @@
 -- Floats compared as numbers: equal to a float of known quarters are the floats that have the same.
 use mathlib.Core.Path.{◌≡◌, refl, sym, ap, ◌∙◌}
-use mathlib.Core.Bool.{Bool, true, false, beq, ◌&&◌, ◌||◌}
-use Prim.Native.Nat.{ℕ, ◌+◌, ◌*◌, ◌≤◌, ◌<◌}
+use mathlib.Core.Bool.{Bool, true, false, beq, ◌||◌}
+use Prim.Native.Nat.{ℕ, ◌*◌, ◌<◌}
+use native.Mathlib.Nat.{eq_of_mul-eq-mul_right}
 use native.Mathlib.Omega.{arith}
-use lib.Dec.{T, eqb, eqb→eq, lit≤}
+use lib.Dec.{T, eqb, eqb→eq}
 use lib.IntN.{ℤ, nat_abs}
-use mir.Syntax.{w32}
-use mir.Val.{bool_byte, Fits}
 use lib.Ieee.{Float, nan, inf, fin, up, down, eq}
 use lib.Ieee.Fits.{down_pos, and_i, and_l, and_r, eq→eqb}
 use Rattle.preview.specs.Quarters.{just, signed, four_times}
 use Rattle.preview.specs.Theorems.{ComparedAsNumbers}
-use Rattle.preview.proofs.Exact.{Finite, cancel, signed_size, known, four}
+use Rattle.preview.proofs.Exact.{Finite, signed_size, known, four}
 use Rattle.preview.proofs.Cuts.{none_below}
 
 -- two fractions of the same number of quarters are the same
@@ -45,10 +44,10 @@ same_equal k (fin s m e) (fin t n d) z h j =
 
 -- the number of b / e is that of a / d, where these are the same
 fraction_of : (a d b e n : ℕ) → 0 < e → a * e ≡ b * d → 4 * b ≡ n * e → 4 * a ≡ n * d
-fraction_of a d b e n p h j = cancel e (4 * a) (n * d) p (omega (arith, ap (λ (z : ℕ). 4 * z) h, ap (λ (z : ℕ). z * d) j))
+fraction_of a d b e n p h j = eq_of_mul-eq-mul_right e p (4 * a) (n * d) (omega (arith, ap (λ (z : ℕ). 4 * z) h, ap (λ (z : ℕ). z * d) j))
 
 no_size : (n a d e : ℕ) → 0 < d → 0 < e → 4 * a ≡ n * d → a * e ≡ 0 → n ≡ 0
-no_size n a d e p q h z = let o : a ≡ 0 = cancel e a 0 q (omega arith) in cancel d n 0 p (omega arith)
+no_size n a d e p q h z = let o : a ≡ 0 = eq_of_mul-eq-mul_right e q a 0 (omega arith) in eq_of_mul-eq-mul_right d p n 0 (omega arith)
 
 sign_of : (s t : Bool) (n a d e : ℕ) → 0 < d → 0 < e → 4 * a ≡ n * d → T (beq s t || eqb (a * e) 0) → signed s n ≡ signed t n
 sign_of false false n a d e p q h g = refl
@@ -86,24 +85,3 @@ compared_as_numbers x y z h =
 
 pub itself : (x : Float) (z : ℤ) → four_times x ≡ just z → T (eq x x)
 itself x z h = (compared_as_numbers x x z h).1 h
-
--- ---- three comparisons, counted
-pub counted : (a b c : Bool) → eqb (bool_byte a + bool_byte b + bool_byte c) 3 ≡ (a && (b && c))
-counted true true true = refl
-counted true true false = refl
-counted true false true = refl
-counted true false false = refl
-counted false true true = refl
-counted false true false = refl
-counted false false true = refl
-counted false false false = refl
-
-byte_most : (b : Bool) → bool_byte b ≤ 1
-byte_most true = lit≤ tt
-byte_most false = lit≤ tt
-
-pub two_fit : (a b : Bool) → Fits w32 (bool_byte a + bool_byte b)
-two_fit a b = record { fits = omega (arith, byte_most a, byte_most b) }
-
-pub three_fit : (a b c : Bool) → Fits w32 (bool_byte a + bool_byte b + bool_byte c)
-three_fit a b c = record { fits = omega (arith, byte_most a, byte_most b, byte_most c) }

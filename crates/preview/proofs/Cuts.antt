@@ -2,7 +2,7 @@
 use mathlib.Core.Path.{◌≡◌, refl, sym, ap, subst, ◌∙◌}
 use mathlib.Core.Bool.{Bool, true, false, cond, not, beq, ◌&&◌}
 use Prim.Native.Nat.{ℕ, zero, suc, ◌+◌, ◌*◌, ◌-◌, ◌/◌, ◌%◌, ◌^◌, ◌≤◌, ◌<◌, compare}
-use native.Mathlib.Nat.{mul-le-mul_right, mul-div_cancel, lt_of_lt_of_le, lt_irrefl}
+use native.Mathlib.Nat.{eq_of_mul-eq-mul_right, mul-le-mul_right, mul-div_cancel, lt_of_lt_of_le, lt_irrefl}
 use native.Mathlib.Omega.{arith}
 use lib.Dec.{T, leb, leb→le, nleb→lt, ltb, lt→ltb, lit<, lit≤}
 use lib.Pow.{pow_pos, pow-add, pow_mono, shl_lt}
@@ -14,7 +14,7 @@ use lib.Ieee.Fits.{down_pos}
 use Rattle.integers.specs.Parts.{pos_part}
 use Rattle.integers.proofs.Parts.{pos_part_neg}
 use Rattle.preview.specs.Quarters.{signed}
-use Rattle.preview.proofs.Exact.{Whole, Finite, Four, cancel}
+use Rattle.preview.proofs.Exact.{Whole, Finite, Four}
 use Rattle.preview.proofs.Fractions.{signed_part}
 
 -- ---- the bits of a number of 2^52 to 2^53 − 1
@@ -68,7 +68,7 @@ unit : (x : Float) (a d q : ℕ) → 0 < d → a ≡ q * d → HasValue x false 
 unit nan a d q p h w = absurd w
 unit (inf r) a d q p h w = absurd w
 unit (fin s m e) a d q p h w =
-    (w.0, cancel d (m * up e * 1) (q * down e) p (omega (arith, w.1, ap (λ (z : ℕ). z * down e) h)))
+    (w.0, eq_of_mul-eq-mul_right d p (m * up e * 1) (q * down e) (omega (arith, w.1, ap (λ (z : ℕ). z * down e) h)))
 
 exact : (a d q : ℕ) → 0 < d → q < 2 ^ 53 → a ≡ q * d → HasValue (round binary64 false a d) false q 1
 exact a d q p small h =

@@ -30,9 +30,6 @@ pub record Four (k : ℕ) (x : Float) (z : ℤ) : Type 0 where
   pub exact : Finite k x z
 
 -- ---- rounding
-pub cancel : (k a b : ℕ) → 0 < k → a * k ≡ b * k → a ≡ b
-cancel k a b p h = eq_of_mul-eq-mul_right k p a b h
-
 of_value : (s : Bool) (x : Float) (a d n : ℕ) → 0 < d → 4 * a ≡ n * d → HasValue x s a d → Four n x (signed s n)
 of_value s nan a d n p h w = absurd w
 of_value s (inf r) a d n p h w = absurd w
@@ -42,7 +39,7 @@ of_value s (fin t m e) a d n p h w =
           record {
             size = n;
             small = omega arith;
-            is = cancel d (4 * (m * up e)) (n * down e) p (omega (arith, ap (λ (k : ℕ). 4 * k) w.1, ap (λ (k : ℕ). k * down e) h));
+            is = eq_of_mul-eq-mul_right d p (4 * (m * up e)) (n * down e) (omega (arith, ap (λ (k : ℕ). 4 * k) w.1, ap (λ (k : ℕ). k * down e) h));
             number = ap (λ (q : Bool). signed q n) w.0;
           };
     }

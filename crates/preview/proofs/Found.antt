@@ -1,6 +1,6 @@
 -- What the way back finds: floats compared with those of samples, and the samples that can only be meant.
 use mathlib.Core.Path.{◌≡◌, refl, sym, ap, subst}
-use mathlib.Core.Bool.{true, ◌&&◌}
+use mathlib.Core.Bool.{true, false, ◌&&◌}
 use mathlib.Core.Logic.{◌↔◌}
 use Prim.Native.Nat.{ℕ, ◌≤◌}
 use native.Mathlib.Omega.{arith}
@@ -12,7 +12,7 @@ use Rattle.integers.specs.Parts.{In, within}
 use Rattle.integers.proofs.Booleans.{holds_true, true_holds, and_iff, same_test}
 use Rattle.integers.proofs.Ranges.{within_iff}
 use Rattle.stage.specs.Answers.{Reply, done, refused, refusal, between}
-use Rattle.stage.specs.Planes.{Triple}
+use Rattle.stage.specs.declared.Triple.{Triple}
 use Rattle.stage.specs.Ranges.{max_sample}
 use Rattle.stage.proofs.Answers.{between_iff}
 use Rattle.preview.specs.declared.Pixel.{Pixel}
@@ -24,7 +24,7 @@ use Rattle.preview.specs.Parts.{Bits16, same_floats, Finds}
 use Rattle.preview.proofs.Compared.{compared_as_numbers}
 use Rattle.preview.proofs.Rows.{are_just}
 use Rattle.preview.proofs.Values.{same_three_lem, three_itself}
-use Rattle.preview.proofs.RoundTrips.{none_found, accepted}
+use Rattle.preview.proofs.RoundTrips.{none_found, accepted, found_answer}
 
 -- samples of a depth have at most 16 bits
 in_bits : (b : ℕ) (z : ℤ) → b ≤ 16 → T (within 0 (max_sample b) z) → In 0 65535 z
@@ -40,9 +40,10 @@ bits_16 b s l h =
 pub depth_most : (b : ℕ) → between 2 16 b ≡ true → b ≤ 16
 depth_most b h = ((between_iff 2 16 b).0 (true_holds h)).1
 
-pub allowed_bits : (b : ℕ) (s : Rgb) → refusal (preview_tests b s) ≡ 0 → Bits16 s
+-- what the forward calls accept
+pub allowed_bits : (b : ℕ) (s : Rgb) → 0 ≡ refusal (preview_tests b s) → Bits16 s
 allowed_bits b s h =
-    let p = accepted b s h in
+    let p = accepted b s (sym h) in
     bits_16 b s (depth_most b (holds_true (between 2 16 b) p.0)) p.1
 
 -- ---- a pixel has the values of samples, as a test
@@ -69,8 +70,21 @@ module _ (x y : Pixel) (q : Triple ℤ) (h : pixel_quarters y ≡ just q) where
 pub same_has : (σ : Space) (x y : Pixel) (s : Rgb) → pixel_quarters y ≡ just (quarters σ s) → same_floats x y ≡ has (done (shown σ (pixel_quarters x))) s
 same_has σ x y s h = same_test (same_floats x y) (has (done (shown σ (pixel_quarters x))) s) (same_iff x y (quarters σ s) h) (has_iff σ (pixel_quarters x) s)
 
--- ---- 15, where the samples that can only be meant are not there
-pub not_found : (b : ℕ) (v : Reply Shown) (s : Rgb) → b ≤ 16 → T (between 2 16 b) → Finds v s → (T (are_samples b s) → T (has v s) → ⊥) → back_call b v ≡ refused 15
-not_found b v s l d f n =
-    none_found b v d
-    (λ u h. let e = sym (f (found v) (bits_16 b (found v) l u) h) in n (subst (λ (t : Rgb). T (are_samples b t)) e u) (subst (λ (t : Rgb). T (has v t)) e h))
+-- ---- the answer, from the samples that can only be meant
+module _ (b : ℕ) (v : Reply Shown) (s : Rgb) (d : between 2 16 b ≡ true) (f : Finds v s) where
+  none : (T (are_samples b s) → T (has v s) → ⊥) → refused 15 ≡ back_call b v
+  none n =
+      sym
+      (none_found b v (true_holds d)
+      (λ u h.
+      let e = sym (f (found v) (bits_16 b (found v) (depth_most b d) u) h) in
+      n (subst (λ (t : Rgb). T (are_samples b t)) e u) (subst (λ (t : Rgb). T (has v t)) e h)))
+
+  pub no_samples : are_samples b s ≡ false → refused 15 ≡ back_call b v
+  no_samples e = none (λ u h. subst T e u)
+
+  pub other_floats : has v s ≡ false → refused 15 ≡ back_call b v
+  other_floats e = none (λ u h. subst T e h)
+
+  pub samples_found : are_samples b s ≡ true → has v s ≡ true → done s ≡ back_call b v
+  samples_found u h = sym (found_answer b v s (true_holds d) (true_holds u) (true_holds h))

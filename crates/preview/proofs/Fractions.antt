@@ -2,7 +2,7 @@
 use mathlib.Core.Path.{◌≡◌, refl, sym, ap, ◌∙◌}
 use mathlib.Core.Bool.{Bool, true, false}
 use Prim.Native.Nat.{ℕ, suc, ◌*◌, ◌^◌, ◌≤◌, ◌<◌}
-use native.Mathlib.Nat.{mul-pos, le-mul_of_pos_right}
+use native.Mathlib.Nat.{eq_of_mul-eq-mul_right, mul-pos, le-mul_of_pos_right}
 use native.Mathlib.Omega.{arith}
 use lib.Dec.{lit<}
 use lib.Pow.{pow_pos}
@@ -13,7 +13,7 @@ use Rattle.integers.specs.Parts.{pos_part, neg_part}
 use Rattle.integers.proofs.Parts.{scale_parts, nat_abs_parts, eq_parts, pos_part_neg, neg_part_neg}
 use Rattle.integers.proofs.Linear.{eq_lin, flat, count}
 use Rattle.preview.specs.Quarters.{signed}
-use Rattle.preview.proofs.Exact.{Finite, Four, cancel, rounded, again}
+use Rattle.preview.proofs.Exact.{Finite, Four, rounded, again}
 
 -- ---- one part in c = 2^(i + 1), of a number that is c times another
 abbrev pub part : ℕ → Float
@@ -23,13 +23,13 @@ pub signed_part : (s : Bool) (c n : ℕ) (w : ℤ) → 0 < c → signed s n ≡ 
 signed_part false c n w p h =
     let q = scale_parts c w in
     let u : n ≡ c * pos_part w = ap pos_part h ∙ q.positive in
-    let z : neg_part w ≡ 0 = cancel c (neg_part w) 0 p (omega (arith, ap neg_part h ∙ q.negative)) in
+    let z : neg_part w ≡ 0 = eq_of_mul-eq-mul_right c p (neg_part w) 0 (omega (arith, ap neg_part h ∙ q.negative)) in
     let j = nat_abs_parts w in
     (omega (arith, ap (λ (i : ℕ). i * c) j, ap (λ (i : ℕ). i * c) z), eq_parts (pos (nat_abs w)) w (omega arith))
 signed_part true c n w p h =
     let q = scale_parts c w in
     let u : n ≡ c * neg_part w = sym (neg_part_neg (pos n)) ∙ ap neg_part h ∙ q.negative in
-    let z : pos_part w ≡ 0 = cancel c (pos_part w) 0 p (omega (arith, sym (pos_part_neg (pos n)) ∙ ap pos_part h ∙ q.positive)) in
+    let z : pos_part w ≡ 0 = eq_of_mul-eq-mul_right c p (pos_part w) 0 (omega (arith, sym (pos_part_neg (pos n)) ∙ ap pos_part h ∙ q.positive)) in
     let j = nat_abs_parts w in
     (omega (arith, ap (λ (i : ℕ). i * c) j, ap (λ (i : ℕ). i * c) z), eq_parts (neg_ℤ (pos (nat_abs w))) w (rw (pos_part_neg, neg_part_neg) (omega arith)))
 

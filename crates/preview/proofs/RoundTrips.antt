@@ -8,7 +8,7 @@ use lib.Dec.{T}
 use lib.IntN.{ℤ}
 use Rattle.integers.proofs.Booleans.{holds_true, true_holds, and_iff}
 use Rattle.stage.specs.Answers.{Reply, done, refused, ◌else◌, refusal, answer, between}
-use Rattle.stage.specs.Planes.{Triple}
+use Rattle.stage.specs.declared.Triple.{Triple}
 use Rattle.preview.specs.declared.Rgb.{Rgb}
 use Rattle.preview.specs.Quarters.{Maybe, just, nothing}
 use Rattle.preview.specs.Spaces.{Space, quarters, samples}

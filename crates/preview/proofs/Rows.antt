@@ -8,7 +8,8 @@ use lib.Ieee.{Float, binary64, add, sub, mul}
 use Rattle.integers.specs.Parts.{In}
 use Rattle.integers.proofs.Parts.{nat_abs_parts, one_part}
 use Rattle.integers.proofs.Linear.{eq_lin, in_lin, flat, count}
-use Rattle.stage.specs.Planes.{Triple, triple}
+use Rattle.stage.specs.declared.Triple.{Triple}
+use Rattle.stage.specs.Planes.{triple}
 use Rattle.preview.specs.declared.Pixel.{Pixel}
 use Rattle.preview.specs.declared.Rgb.{Rgb}
 use Rattle.preview.specs.Quarters.{Maybe, just, nothing, four_times, all_three, pixel_quarters}

@@ -10,7 +10,8 @@ use Rattle.integers.proofs.Booleans.{holds_true, and_iff}
 use Rattle.integers.proofs.FloorDivision.{floor_div_out}
 use Rattle.integers.proofs.Linear.{eq_lin, flat, count}
 use Rattle.stage.specs.declared.Plane.{Plane}
-use Rattle.stage.specs.Planes.{Triple, get}
+use Rattle.stage.specs.declared.Triple.{Triple}
+use Rattle.stage.specs.Planes.{get}
 use Rattle.stage.specs.Estimate.{same_number}
 use Rattle.stage.proofs.Triples.{each_plane, triple_ext}
 use Rattle.stage.proofs.Prediction.{same_equal, same_itself}

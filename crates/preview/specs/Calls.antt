@@ -2,14 +2,12 @@
 use Rattle.std.specs.Prelude.{Bool, false, ◌&&◌, List, [], ◌∷◌, ℕ, ℤ, pos}
 use Rattle.integers.specs.Parts.{within}
 use Rattle.stage.specs.Answers.{Reply, done, refused, Test, ◌else◌, answer, between}
-use Rattle.stage.specs.Planes.{Triple}
+use Rattle.stage.specs.declared.Triple.{Triple}
 use Rattle.stage.specs.Ranges.{max_sample}
 use Rattle.stage.specs.Estimate.{same_number}
 use Rattle.preview.specs.declared.Rgb.{Rgb}
 use Rattle.preview.specs.declared.Preview.{Preview}
 use Rattle.preview.specs.declared.Preview.TheVariants as preview
-use Rattle.preview.specs.declared.Samples.{Samples}
-use Rattle.preview.specs.declared.Samples.TheVariants as answered
 use Rattle.preview.specs.Quarters.{Maybe, just, nothing, pixel_quarters}
 use Rattle.preview.specs.Spaces.{Space, HVSCT, YCoCg, quarters, rgb_of, samples}
 
@@ -17,15 +15,11 @@ use Rattle.preview.specs.Spaces.{Space, HVSCT, YCoCg, quarters, rgb_of, samples}
 pub data Shown : Type 0 where
   shown : Space → Maybe (Triple ℤ) → Shown
 
--- the code's answers as 02's
+-- the code's answer as 02's
 abbrev pub preview_reply : Preview → Reply Shown
 preview_reply (preview.Hvsct x) = done (shown HVSCT (pixel_quarters x))
 preview_reply (preview.Ycocg x) = done (shown YCoCg (pixel_quarters x))
 preview_reply (preview.Refused n) = refused n
-
-abbrev pub samples_reply : Samples → Reply Rgb
-samples_reply (answered.Found s) = done s
-samples_reply (answered.Refused n) = refused n
 
 -- "samples 0 to M at any depth"
 abbrev pub are_samples : ℕ → Rgb → Bool

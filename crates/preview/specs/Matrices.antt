@@ -1,6 +1,7 @@
 -- The matrices of source document 001, equations 3 to 6, row by row, with entries in quarters: a restatement of specs/Spaces.antt.
 use Rattle.std.specs.Prelude.{◌≡◌, ℤ, pos, neg_ℤ, ◌+ℤ◌, ◌*ℤ◌}
-use Rattle.stage.specs.Planes.{Triple, triple}
+use Rattle.stage.specs.declared.Triple.{Triple}
+use Rattle.stage.specs.Planes.{triple}
 use Rattle.preview.specs.declared.Rgb.{Rgb}
 use Rattle.preview.specs.Spaces.{Space, HVSCT, YCoCg, quarters}
 

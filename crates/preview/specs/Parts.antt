@@ -3,7 +3,8 @@ use Rattle.std.specs.Prelude.{◌≡◌, Bool, ◌&&◌, T, ℤ, pos, ◌*ℤ◌
 use Rattle.std.specs.Float.Ieee.{eq}
 use Rattle.integers.specs.Parts.{In}
 use Rattle.stage.specs.Answers.{Reply}
-use Rattle.stage.specs.Planes.{Triple, triple}
+use Rattle.stage.specs.declared.Triple.{Triple}
+use Rattle.stage.specs.Planes.{triple}
 use Rattle.preview.specs.declared.Pixel.{Pixel}
 use Rattle.preview.specs.declared.Rgb.{Rgb}
 use Rattle.preview.specs.Quarters.{just, pixel_quarters}

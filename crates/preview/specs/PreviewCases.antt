@@ -3,7 +3,8 @@ use Rattle.std.specs.Prelude.{◌≡◌, List, [], ◌∷◌, map, ℕ, ℤ, pos
 use Rattle.std.specs.Float.{binary64}
 use Rattle.std.specs.Float.Ieee.{of_bits}
 use Rattle.stage.specs.Answers.{Reply, done, refused}
-use Rattle.stage.specs.Planes.{Triple, triple}
+use Rattle.stage.specs.declared.Triple.{Triple}
+use Rattle.stage.specs.Planes.{triple}
 use Rattle.stage.specs.Case.{Value, Case, ◌gives◌, Hold, samples, minus}
 use Rattle.preview.specs.declared.Pixel.{Pixel}
 use Rattle.preview.specs.declared.Rgb.{Rgb}

@@ -2,7 +2,8 @@
 -- space, s are samples R, G and B, q is four times three values of a preview pixel.
 use Rattle.std.specs.Prelude.{ℤ, pos, ◌+ℤ◌, ◌-ℤ◌, ◌*ℤ◌}
 use Rattle.integers.specs.Parts.{floor_div}
-use Rattle.stage.specs.Planes.{Triple, triple}
+use Rattle.stage.specs.declared.Triple.{Triple}
+use Rattle.stage.specs.Planes.{triple}
 use Rattle.preview.specs.declared.Rgb.{Rgb}
 
 pub data Space : Type 0 where

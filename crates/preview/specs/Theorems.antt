@@ -2,7 +2,7 @@
 use Rattle.std.specs.Prelude.{◌≡◌, ◌↔◌, ℕ, T, ℤ, Float}
 use Rattle.std.specs.Float.Ieee.{eq}
 use Rattle.stage.specs.Answers.{Reply, done, refused, refusal, between}
-use Rattle.stage.specs.Planes.{Triple}
+use Rattle.stage.specs.declared.Triple.{Triple}
 use Rattle.preview.specs.declared.Rgb.{Rgb}
 use Rattle.preview.specs.Quarters.{Maybe, just, four_times}
 use Rattle.preview.specs.Spaces.{Space, quarters}

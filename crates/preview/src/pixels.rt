@@ -8,49 +8,57 @@ ghost use Rattle.preview.specs.Calls.{are_samples};
 use crate::{Pixel, Rgb};
 use integers::is_within;
 
-pub(crate) fn are_samples(depth: u32, s: Rgb) -> bool
-    requires { depth ≤ 16 }
-    ensures { result ≡ are_samples depth s }
-{
-    let m = (1u32 << depth) - 1;
-    is_within(s.r, 0, m) & (is_within(s.g, 0, m) & is_within(s.b, 0, m))
-}
+impl Rgb {
+    // Whether these are samples of a depth.
+    pub(crate) fn is_of(self, depth: u32) -> bool
+        requires { depth ≤ 16 }
+        ensures { result ≡ are_samples depth self }
+    {
+        let m = (1u32 << depth) - 1;
+        is_within(self.r, 0, m) & (is_within(self.g, 0, m) & is_within(self.b, 0, m))
+    }
 
-pub(crate) fn floats_of(s: Rgb) -> Pixel
-    requires { Bits16 s }
-    ensures { pixel_quarters result ≡ just (fourfold s) }
-{
-    Pixel {
-        v1: s.r as f64,
-        v2: s.g as f64,
-        v3: s.b as f64,
+    pub(crate) fn floats(self) -> Pixel
+        requires { Bits16 self }
+        ensures { pixel_quarters result ≡ just (fourfold self) }
+    {
+        Pixel {
+            v1: self.r as f64,
+            v2: self.g as f64,
+            v3: self.b as f64,
+        }
     }
 }
 
-// The sample that a float is, where it is one of 16 bits; some number for every other float. To 2^52 a sample adds its bits.
+// The sample that a float is, where it is one of 16 bits; some number for every other float. To 2^52 a sample adds its bits. `x == x`
+// is `!x.is_nan()`; with that call a pixel back takes a twentieth longer.
 fn sample_of(x: f64) -> i32
     ensures { (z : ℤ) → In 0 65535 z → four_times x ≡ just (pos 4 *ℤ z) → result ≡ z }
 {
     if x == x {
-        return (f64::to_bits(x + 4503599627370496.0) % 65536) as i32;
-    }
-    0
-}
-
-pub(crate) fn samples_of(x: Pixel) -> Rgb
-    ensures { (s : Rgb) → Bits16 s → pixel_quarters x ≡ just (fourfold s) → result ≡ s }
-{
-    Rgb {
-        r: sample_of(x.v1),
-        g: sample_of(x.v2),
-        b: sample_of(x.v3),
+        ((x + 4503599627370496.0).to_bits() % 65536) as i32
+    } else {
+        0
     }
 }
 
-// Floats are compared as numbers: both zeros are the same, and what is not a number is the same as nothing. The three comparisons are
-// counted, which takes one branch where `&` would take six.
-pub(crate) fn same_pixel(x: Pixel, y: Pixel) -> bool
-    ensures { result ≡ same_floats x y }
-{
-    (x.v1 == y.v1) as u32 + (x.v2 == y.v2) as u32 + (x.v3 == y.v3) as u32 == 3
+impl Pixel {
+    // The samples that the floats are, where they are some.
+    pub(crate) fn samples(self) -> Rgb
+        ensures { (s : Rgb) → Bits16 s → pixel_quarters self ≡ just (fourfold s) → result ≡ s }
+    {
+        Rgb {
+            r: sample_of(self.v1),
+            g: sample_of(self.v2),
+            b: sample_of(self.v3),
+        }
+    }
+
+    // As numbers, as `self == y` does: both zeros are the same, and what is not a number is the same as nothing. The three comparisons
+    // are counted, in one branch: `==` takes six, and twice the time where a pixel is refused.
+    pub(crate) fn equals(self, y: Pixel) -> bool
+        ensures { result ≡ same_floats self y }
+    {
+        (self.v1 == y.v1) as u32 + (self.v2 == y.v2) as u32 + (self.v3 == y.v3) as u32 == 3
+    }
 }

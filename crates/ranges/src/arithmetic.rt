@@ -1,16 +1,11 @@
 // The arithmetic of ranges: x is the range of the plane that a step changes, v that of what the step adds or subtracts.
-ghost use Rattle.std.specs.Prelude.{◌≡◌, max};
+// Each asks for ranges that can be added: a type of such ranges would not hold the sum of two.
+ghost use Rattle.std.specs.Prelude.{◌≡◌, ◌≤◌};
 ghost use Rattle.stage.specs.Steps.{add, subtract, negate};
 ghost use Rattle.stage.specs.Ranges.{divided, lift_range};
 ghost use Rattle.ranges.specs.Read.{Summable};
 
 use stage::Range;
-
-pub fn larger(a: u32, b: u32) -> u32
-    ensures { result ≡ max a b }
-{
-    if a < b { b } else { a }
-}
 
 pub fn add(x: Range, v: Range) -> Range
     requires { Summable x × Summable v }
@@ -38,28 +33,19 @@ pub fn negate(x: Range, v: Range) -> Range
     ensures { result ≡ lift_range negate v x }
 {
     Range {
-        below: larger(x.below, x.above + v.below),
-        above: larger(x.above, x.below + v.above),
+        below: x.below.max(x.above + v.below),
+        above: x.above.max(x.below + v.above),
     }
 }
 
-// divided by 2 and by 4, rounded down
-pub fn half(v: Range) -> Range
-    requires { Summable v }
-    ensures { result ≡ divided 2 v }
+// divided by N and rounded down
+pub fn divided<const N: u32>(v: Range) -> Range
+    requires summable { Summable v }
+    requires divisor { (1 ≤ N) × (N ≤ 4) }
+    ensures { result ≡ divided N v }
 {
     Range {
-        below: (v.below + 1) / 2,
-        above: v.above / 2,
-    }
-}
-
-pub fn quarter(v: Range) -> Range
-    requires { Summable v }
-    ensures { result ≡ divided 4 v }
-{
-    Range {
-        below: (v.below + 3) / 4,
-        above: v.above / 4,
+        below: (v.below + (N - 1)) / N,
+        above: v.above / N,
     }
 }

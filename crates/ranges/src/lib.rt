@@ -5,29 +5,37 @@ mod arithmetic;
 mod finished;
 
 ghost use Rattle.std.specs.Prelude.{◌≡◌, ◌≤◌};
-ghost use Rattle.stage.specs.Planes.{triple};
-ghost use Rattle.stage.specs.Ranges.{finished_ranges, widest, within_ranges};
+ghost use Rattle.stage.specs.Planes.{samples, get};
+ghost use Rattle.stage.specs.Ranges.{extent, finished_ranges, widest, within_ranges};
 ghost use Rattle.stage.specs.Settings.{settings_of, UpTo16, Allowed};
 ghost use Rattle.stage.specs.Search.{counters_needed, counters_call};
 ghost use Rattle.stage.specs.Transform.{is_picture};
-ghost use Rattle.stage.specs.Graymap.{plane_range};
 ghost use Rattle.ranges.specs.Read.{Summable};
 
-use arithmetic::larger;
 use finished::finished_ranges;
-use stage::{Depths, Range, Settings, are_depths};
+use integers::{all_fit, all_within};
+use stage::{Depths, Plane, Planes, Range, Settings, are_depths};
 
-// The range of plane 1 or 2, and of plane 3 for every other number.
-pub fn finished_range(depths: Depths, transform: u32, plane: u32) -> Range
+// The range of one finished plane.
+pub fn finished_range(depths: Depths, transform: u32, plane: Plane) -> Range
     requires { UpTo16 depths × (transform ≤ 3) }
-    ensures { (result ≡ plane_range depths transform plane) × Summable result }
+    ensures { (result ≡ get (finished_ranges (settings_of 1 1 depths transform)) plane) × Summable result }
 {
     let r = finished_ranges(depths, transform);
+    // a method of `Triple` for this would serve one place
     match plane {
-        1 => r.c1,
-        2 => r.c2,
-        _ => r.c3,
+        Plane::C1 => r.c1,
+        Plane::C2 => r.c2,
+        Plane::C3 => r.c3,
     }
+}
+
+// Highest less lowest.
+fn extent(r: Range) -> u32
+    requires { Summable r }
+    ensures { result ≡ extent r }
+{
+    r.below + r.above
 }
 
 // D, the widest range (highest less lowest) of a transform's finished planes, which a picture's size does not change.
@@ -36,10 +44,7 @@ pub fn widest(depths: Depths, transform: u32) -> u32
     ensures { result ≡ widest (settings_of 1 1 depths transform) }
 {
     let r = finished_ranges(depths, transform);
-    larger(
-        r.c1.below + r.c1.above,
-        larger(r.c2.below + r.c2.above, r.c3.below + r.c3.above),
-    )
+    extent(r.c1).max(extent(r.c2).max(extent(r.c3)))
 }
 
 // Residuals lie within −D to D.
@@ -50,32 +55,33 @@ pub fn counters_needed(depths: Depths, transform: u32) -> u32
     2 * widest(depths, transform) + 1
 }
 
-// How many counters the estimate and the search ask for; 0 where they would refuse a depth or the transform.
+// How many counters the estimate and the search ask for. The papers' answer is 0 where they would refuse a depth or the transform.
 pub fn counters(depths: Depths, transform: u32) -> u32
     ensures { result ≡ counters_call depths transform }
 {
     if are_depths(depths) & (transform <= 3) {
-        return counters_needed(depths, transform);
+        counters_needed(depths, transform)
+    } else {
+        0
     }
-    0
 }
 
 // Whether the planes hold a picture: each within its own depth.
-pub fn is_picture(settings: Settings, c1: &[i32], c2: &[i32], c3: &[i32]) -> bool
+pub fn is_picture(settings: Settings, planes: Planes) -> bool
     requires { Allowed settings }
-    ensures { result ≡ is_picture settings (triple c1.now c2.now c3.now) }
+    ensures { result ≡ is_picture settings (samples planes.entry) }
 {
-    integers::all_fit(c1, settings.depths.c1)
-        & (integers::all_fit(c2, settings.depths.c2) & integers::all_fit(c3, settings.depths.c3))
+    let d = settings.depths;
+    all_fit(planes.c1, d.c1) & (all_fit(planes.c2, d.c2) & all_fit(planes.c3, d.c3))
 }
 
 // Whether each plane lies in its range of finished planes.
-pub fn in_finished_ranges(settings: Settings, c1: &[i32], c2: &[i32], c3: &[i32]) -> bool
+pub fn in_finished_ranges(settings: Settings, planes: Planes) -> bool
     requires { Allowed settings }
-    ensures { result ≡ within_ranges (finished_ranges settings) (triple c1.now c2.now c3.now) }
+    ensures { result ≡ within_ranges (finished_ranges settings) (samples planes.entry) }
 {
     let r = finished_ranges(settings.depths, settings.transform);
-    integers::all_within(c1, r.c1.below, r.c1.above)
-        & (integers::all_within(c2, r.c2.below, r.c2.above)
-            & integers::all_within(c3, r.c3.below, r.c3.above))
+    all_within(planes.c1, r.c1.below, r.c1.above)
+        & (all_within(planes.c2, r.c2.below, r.c2.above)
+            & all_within(planes.c3, r.c3.below, r.c3.above))
 }

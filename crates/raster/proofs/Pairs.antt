@@ -6,6 +6,7 @@ use Prim.Native.Nat.{ℕ, zero, suc, ◌+◌, ◌*◌, ◌/◌, ◌%◌, ◌≤�
 use native.Mathlib.Omega.{arith}
 use lib.Dec.{ltb, lit≤}
 use lib.ListN.{length, get_or}
+use Rattle.raster.specs.Pairs.{pairs_long}
 use Rattle.stage.specs.Raster.{sample_bytes, from_pairs, to_pairs, raster_samples, samples_raster}
 
 twice : (i : ℕ) → 2 * suc i ≡ suc (suc (2 * i))
@@ -20,17 +21,6 @@ pair_at [] i h = absurd (omega arith)
 pair_at (a ∷ []) i h = absurd (omega arith)
 pair_at (a ∷ b ∷ l) zero h = refl
 pair_at (a ∷ b ∷ l) (suc i) h = rw (twice i, behind (2 * i)) (pair_at l i (omega arith))
-
--- a byte that is left over is no sample
-pub record PairsLong (l : List ℕ) : Type 0 where
-  pub least : 2 * length (from_pairs l) ≤ length l
-  pub most : length l ≤ 2 * length (from_pairs l) + 1
-
-pub pairs_long : (l : List ℕ) → PairsLong l
-unfolding from_pairs
-pairs_long [] = record { least = omega arith; most = omega arith }
-pairs_long (a ∷ []) = record { least = omega arith; most = omega arith }
-pairs_long (a ∷ b ∷ l) = let p = pairs_long l in record { least = omega arith; most = omega arith }
 
 -- a sample has one byte or two
 pub bytes_most : (m : ℕ) → sample_bytes m ≤ 2
@@ -61,14 +51,10 @@ raster_long m l = by (ltb m 256)
     by true = omega arith
     by false = pairs_twice l
 
--- the bytes of one sample, and of none
-pub next_pair : (n : ℕ) (l : List ℕ) → to_pairs (n ∷ l) ≡ (n / 256) ∷ (n % 256) ∷ to_pairs l
+-- the bytes of one sample
+pub one_pair : (n : ℕ) → to_pairs (n ∷ []) ≡ (n / 256) ∷ (n % 256) ∷ []
 unfolding to_pairs
-next_pair n l = refl
-
-pub no_pairs : to_pairs [] ≡ []
-unfolding to_pairs
-no_pairs = refl
+one_pair n = refl
 
 -- bytes that change places
 pub swap : (a b n : ℕ) → a < 256 → b < 256 → n ≡ a + 256 * b → 256 * (n % 256) + n / 256 ≡ 256 * a + b

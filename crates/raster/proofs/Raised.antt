@@ -4,7 +4,7 @@ use mathlib.Core.List.{List, [], ◌∷◌, map}
 use Prim.Native.Nat.{ℕ, ◌+◌, ◌≤◌, ◌<◌}
 use native.Mathlib.Numerals.{add-one}
 use native.Mathlib.Omega.{arith}
-use lib.IntN.{ℤ, pos, nat_abs, ◌+ℤ◌}
+use lib.IntN.{ℤ, pos, ◌+ℤ◌}
 use lib.ListN.{length, drop, drop_of_length-le}
 use lib.Seq.{drop-cons}
 use mir.Syntax.{w32}
@@ -14,7 +14,7 @@ use Rattle.integers.specs.Parts.{In}
 use Rattle.integers.specs.Lists.{at}
 use Rattle.integers.proofs.Booleans.{true_holds}
 use Rattle.integers.proofs.Lists.{all_within_iff}
-use Rattle.integers.proofs.Parts.{add_difference, nat_abs_parts}
+use Rattle.integers.proofs.Parts.{add_difference}
 use Rattle.integers.proofs.Ranges.{in_fits}
 use Rattle.stage.specs.declared.Range.{Range}
 use Rattle.stage.specs.Ranges.{extent, Within}
@@ -24,9 +24,6 @@ use Rattle.raster.specs.Samples.{Raisable, Writable}
 -- the sum is 0 or more, and at most the range's highest less its lowest
 pub raised_in : (r : Range) (z : ℤ) → Within r z → In 0 (extent r) (z +ℤ pos r.below)
 raised_in r z w = let d = add_difference z (pos r.below) in omega arith
-
-pub raised_abs : (r : Range) (z : ℤ) → Within r z → nat_abs (z +ℤ pos r.below) ≡ less_lowest r z
-raised_abs r z w = omega (arith, nat_abs_parts (z +ℤ pos r.below), raised_in r z w)
 
 -- ---- one number after another: sample i, as a loop reads it, less the lowest of its range
 module _ {r : Range} {l : List ℤ} {most : ℕ} {text : List ℕ} {start : ℕ} {bytes : List ℕ} (w : Writable most text start bytes r l) (h : most ≤ 65535) (i : ℕ) where

@@ -1,1 +1,2 @@
 pub mod Samples
+pub mod Pairs

@@ -2,7 +2,9 @@
 #![tactic(auto)]
 
 mod reading;
+mod samples;
 mod writing;
 
-pub use reading::{all_up_to, fill, pair, sample_bytes};
+pub use reading::{all_up_to, fill, sample_bytes};
+pub use samples::pair;
 pub use writing::put_samples;

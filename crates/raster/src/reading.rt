@@ -1,7 +1,9 @@
-// The samples of a raster, tested and read. In each pair of loops one is for samples of one byte, one for samples of two.
-ghost use Rattle.std.specs.Prelude.{◌≡◌, ◌+◌, ◌*◌, ◌/◌, ◌%◌, ◌≤◌, ◌<◌, max, pos, ◌-ℤ◌, leb, length, get_or};
-ghost use Rattle.stage.specs.Raster.{sample_bytes, from_pairs, raster_samples};
+// The samples of a raster, tested and read.
+ghost use Rattle.std.specs.Prelude.{◌≡◌, ◌≤◌, pos, ◌-ℤ◌, leb};
+ghost use Rattle.stage.specs.Raster.{sample_bytes, raster_samples};
 ghost use Rattle.raster.specs.Samples.{highest, Fills, Filled};
+
+use crate::samples::Sample;
 
 pub fn sample_bytes(maxval: u32) -> u32
     ensures { result ≡ sample_bytes maxval }
@@ -9,85 +11,38 @@ pub fn sample_bytes(maxval: u32) -> u32
     if maxval < 256 { 1 } else { 2 }
 }
 
-// Bytes 2 × i and 2 × i + 1, as if the second were the more significant: the compiler makes that one load, and the loops over pairs
-// vectorise.
-fn word(raster: &[u8], i: usize) -> u16
-    requires { 2 * i + 1 < length raster.now }
-    ensures { result ≡ get_or raster.now (2 * i) 0 + 256 * get_or raster.now (2 * i + 1) 0 }
-{
-    raster[2 * i] as u16 + 256 * raster[2 * i + 1] as u16
-}
-
-fn swapped(n: u16) -> u16
-    ensures { result ≡ 256 * (n % 256) + n / 256 }
-{
-    256 * (n % 256) + n / 256
-}
-
-// Sample i, of two bytes, the first the more significant.
-pub fn pair(raster: &[u8], i: usize) -> u16
-    requires { 2 * i + 1 < length raster.now }
-    ensures { result ≡ get_or (from_pairs raster.now) i 0 }
-{
-    swapped(word(raster, i))
-}
-
-fn larger(a: u16, b: u16) -> u16
-    ensures { result ≡ max a b }
-{
-    if a < b { b } else { a }
-}
-
-fn larger_byte(a: u8, b: u8) -> u8
-    ensures { result ≡ max a b }
-{
-    if a < b { b } else { a }
-}
-
-fn largest_byte(raster: &[u8]) -> u32
-    ensures { result ≡ highest raster.now }
-{
-    let mut top: u8 = 0;
-    let mut i = 0;
-    while i < raster.len() {
-        top = larger_byte(top, raster[i]);
-        i += 1;
-    }
-    top as u32
-}
-
-fn largest_pair(raster: &[u8]) -> u32
-    ensures { result ≡ highest (from_pairs raster.now) }
-{
-    let n = raster.len() / 2;
-    let mut top: u16 = 0;
-    let mut i = 0;
-    while i < n {
-        top = larger(top, pair(raster, i));
-        i += 1;
-    }
-    top as u32
-}
-
 // The largest sample, and 0 where there is none.
-fn largest(raster: &[u8], maxval: u32) -> u32
+#[tactic(auto, using(crate::proofs::Highest::none_highest, crate::proofs::Highest::highest_more))]
+fn largest<T: Sample>(raster: &[u8]) -> u32
+    ensures { result ≡ highest (T.samples raster.now) }
+{
+    let mut top = T::least();
+    // by index: a sample of two bytes is read at its number
+    for i in 0..T::count(raster) {
+        top = top.larger(T::at(raster, i));
+    }
+    top.number() as u32
+}
+
+fn largest_at(raster: &[u8], maxval: u32) -> u32
     ensures { result ≡ highest (raster_samples maxval raster.now) }
 {
     if maxval < 256 {
-        largest_byte(raster)
+        largest::<u8>(raster)
     } else {
-        largest_pair(raster)
+        largest::<u16>(raster)
     }
 }
 
 // Whether no sample is above maxval; none can be where that is the highest number of one byte or of two.
+#[tactic(auto, using(crate::proofs::Highest::all_highest))]
 pub fn all_up_to(raster: &[u8], maxval: u32) -> bool
     ensures { result ≡ leb (highest (raster_samples maxval raster.now)) maxval }
 {
     if (maxval == 255) | (maxval == 65535) {
         return true;
     }
-    largest(raster, maxval) <= maxval
+    largest_at(raster, maxval) <= maxval
 }
 
 // A sample less `below`.
@@ -98,25 +53,12 @@ fn less(n: u16, below: u32) -> i32
     n as i32 - below as i32
 }
 
-fn fill_bytes(plane: &mut [i32], raster: &[u8], step: usize, offset: usize, below: u32)
-    requires { Fills raster.now step offset below plane.old }
-    ensures { Filled raster.now step offset below plane.old plane.new }
+fn fill_from<T: Sample>(plane: &mut [i32], raster: &[u8], step: usize, offset: usize, below: u32)
+    requires { Fills (T.samples raster.now) step offset below plane.old }
+    ensures { Filled (T.samples raster.now) step offset below plane.old plane.new }
 {
-    let mut i = 0;
-    while i < plane.len() {
-        plane[i] = less(raster[step * i + offset] as u16, below);
-        i += 1;
-    }
-}
-
-fn fill_pairs(plane: &mut [i32], raster: &[u8], step: usize, offset: usize, below: u32)
-    requires { Fills (from_pairs raster.now) step offset below plane.old }
-    ensures { Filled (from_pairs raster.now) step offset below plane.old plane.new }
-{
-    let mut i = 0;
-    while i < plane.len() {
-        plane[i] = less(pair(raster, step * i + offset), below);
-        i += 1;
+    for (i, z) in plane.iter_mut().enumerate() {
+        *z = less(T::at(raster, step * i + offset).number(), below);
     }
 }
 
@@ -126,8 +68,8 @@ pub fn fill(plane: &mut [i32], raster: &[u8], maxval: u32, step: usize, offset: 
     ensures { Filled (raster_samples maxval raster.now) step offset below plane.old plane.new }
 {
     if maxval < 256 {
-        fill_bytes(plane, raster, step, offset, below);
+        fill_from::<u8>(plane, raster, step, offset, below);
     } else {
-        fill_pairs(plane, raster, step, offset, below);
+        fill_from::<u16>(plane, raster, step, offset, below);
     }
 }

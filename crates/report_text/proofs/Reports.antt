@@ -6,26 +6,33 @@ use native.Mathlib.Omega.{arith}
 use lib.ListN.{length, take, drop, replicate, length-append, length-take, length-replicate}
 use lib.Seq.{length-take-le}
 use borrow.Author.Tests.{lt-ltb, le-ltb}
-use Rattle.stage.specs.Answers.{done, refused}
-use Rattle.stage.specs.Pixmap.{Header, header_of, raster_of, raster_planes}
+use Rattle.stage.specs.Answers.{Reply, done, refused}
+use Rattle.stage.specs.declared.Header.{Header}
+use Rattle.stage.specs.Pixmap.{header_of, raster_of, raster_planes}
 use Rattle.text.proofs.Written.{written_parts}
-use Rattle.report_text.specs.Text.{refusal_line}
+use Rattle.report_text.specs.Text.{title, refusal_line}
 use Rattle.report_text.specs.declared.Output.{Output}
 use Rattle.report_text.specs.Promises.{report_room, ReportAt, OutputIs, Printed}
-use Rattle.report_text.specs.Report.{lines, printed, lines_by, report_of}
+use Rattle.report_text.specs.Report.{lines, printed, lines_by, file_lines, report_of}
 
 module _ (file : List ℕ) where
-  pub report_long : 8192 < length file → refusal_line 9 ≡ report_of file
-  unfolding report_of
-  report_long h = rw (lt-ltb 8192 (length file) h)
+  pub file_long : 8192 < length file → file_lines file ≡ refused 9
+  file_long h = rw (lt-ltb 8192 (length file) h)
 
-  pub report_refused : (n : ℕ) → length file ≤ 8192 → refused n ≡ header_of file → refusal_line n ≡ report_of file
-  unfolding report_of
-  report_refused n h e = rw (le-ltb 8192 (length file) h, ← e)
+  pub file_refused : (n : ℕ) → length file ≤ 8192 → refused n ≡ header_of file → file_lines file ≡ refused n
+  file_refused n h e = rw (le-ltb 8192 (length file) h, ← e)
 
-  pub report_read : (h : Header) → length file ≤ 8192 → done h ≡ header_of file → printed (lines h (raster_planes h.depth (raster_of file))) ≡ report_of file
-  unfolding report_of
-  report_read h l e = rw (le-ltb 8192 (length file) l) (ap (λ r. printed (lines_by r (raster_of file))) e)
+  pub file_read : (h : Header) → length file ≤ 8192 → done h ≡ header_of file → file_lines file ≡ lines h (raster_planes h.depth (raster_of file))
+  file_read h l e = rw (le-ltb 8192 (length file) l) (sym (ap (λ (r : Reply Header). lines_by r (raster_of file)) e))
+
+-- the report of a file's lines, and of its refusal
+pub lines_reported : (file l : List ℕ) → file_lines file ≡ done l → title ++ l ≡ report_of file
+unfolding report_of
+lines_reported file l e = sym (ap printed e)
+
+pub refusal_reported : (file : List ℕ) (n : ℕ) → file_lines file ≡ refused n → refusal_line n ≡ report_of file
+unfolding report_of
+refusal_reported file n e = sym (ap printed e)
 
 drop-replicate : (n m a : ℕ) → drop n (replicate m a) ≡ replicate (m - n) a
 drop-replicate zero m a = let e : m - 0 ≡ m = omega arith in rw e

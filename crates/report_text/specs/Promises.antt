@@ -1,12 +1,11 @@
 -- What the functions ask and promise of a report's text, in a buffer and as an answer.
-use Rattle.std.specs.Prelude.{◌≡◌, true, List, ◌++◌, ℕ, ◌+◌, ◌*◌, ◌-◌, ◌≤◌, length, replicate}
-use Rattle.stage.specs.Answers.{done}
-use Rattle.stage.specs.Planes.{Planes}
-use Rattle.stage.specs.Transform.{lengths, all_equal}
-use Rattle.stage.specs.Pixmap.{Header, header_of}
+use Rattle.std.specs.Prelude.{◌≡◌, List, ◌++◌, ℕ, ◌+◌, ◌*◌, ◌-◌, ◌≤◌, length, replicate, Result, Ok, Err}
+use Rattle.stage.specs.declared.Refusal.{Refusal}
+use Rattle.stage.specs.Answers.{Reply, done, refused, number_of}
 use Rattle.text.specs.Written.{Written}
 use Rattle.report_text.specs.declared.Output.{Output}
-use Rattle.report_text.specs.declared.searches.Found.{Found}
+use Rattle.report_text.specs.declared.lines.Line.{Line}
+use Rattle.report_text.specs.Text.{title, line}
 use Rattle.report_text.specs.Report.{report_of}
 
 -- room enough for the four numbers of a line, each a blank and at most ten digits,
@@ -34,25 +33,28 @@ report_room = 320
 abbrev pub ReportAt : (before report after : List ℕ) (end : ℕ) → Type 0
 ReportAt before report after end = WrittenIn before 0 report_room report after end
 
--- what the lines of four searches are written with
-pub record LinesRoom (text : List ℕ) (s0 s1 s2 s3 : Found) : Type 0 where
+-- a text with room for a report, of which nothing is written yet
+pub record Empty (text : List ℕ) (at : ℕ) : Type 0 where
   pub room : report_room ≤ length text
-  pub some0 : 1 ≤ s0.samples
-  pub some1 : 1 ≤ s1.samples
-  pub some2 : 1 ≤ s2.samples
-  pub some3 : 1 ≤ s3.samples
+  pub none : at ≡ 0
 
--- what the report on a pixmap is made from: a file with that header, short enough to be read
-pub record ShortPixmap (file : List ℕ) (h : Header) (text : List ℕ) : Type 0 where
-  pub header : header_of file ≡ done h
-  pub short : length file ≤ 8192
-  pub room : report_room ≤ length text
+-- the lines of a reply behind the header line; or its refusal, and nothing is written
+abbrev pub LinesPut : Reply (List ℕ) → Result (Unit {0}) Refusal → (before after : List ℕ) (end : ℕ) → Type 0
+LinesPut r (Ok u) before after end = (l : List ℕ) × (r ≡ done l) × ReportAt before (title ++ l) after end
+LinesPut r (Err e) before after end = (r ≡ refused (number_of e)) × (after ≡ before) × (end ≡ 0)
 
--- and with planes for its samples
-pub record LentPlanes (file : List ℕ) (h : Header) (p : Planes) (text : List ℕ) : Type 0 where
-  pub header : header_of file ≡ done h
-  pub sizes : all_equal (h.width * h.height) (lengths p) ≡ true
-  pub room : report_room ≤ length text
+-- what the lines of four searches are written with, and what is then written
+pub record LinesRoom (text : List ℕ) (at : ℕ) (l0 l1 l2 l3 : Line) : Type 0 where
+  pub empty : Empty text at
+  pub room : length title + (line_room l0.name.now l0.filters.now + line_room l1.name.now l1.filters.now + line_room l2.name.now l2.filters.now + line_room l3.name.now l3.filters.now) ≤ report_room
+  pub some0 : 1 ≤ l0.found.samples
+  pub some1 : 1 ≤ l1.found.samples
+  pub some2 : 1 ≤ l2.found.samples
+  pub some3 : 1 ≤ l3.found.samples
+
+abbrev pub FourLines : (before : List ℕ) (l0 l1 l2 l3 : Line) (after : List ℕ) (end : ℕ) → Type 0
+FourLines before l0 l1 l2 l3 after end =
+    ReportAt before (title ++ (line l0.name.now l0.filters.now l0.found ++ line l1.name.now l1.filters.now l1.found ++ line l2.name.now l2.filters.now l2.found ++ line l3.name.now l3.filters.now l3.found)) after end
 
 -- the text is the report and then zeros
 pub record OutputIs (report : List ℕ) (r : Output) : Type 0 where

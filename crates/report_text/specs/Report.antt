@@ -4,8 +4,10 @@ use Rattle.stage.specs.Answers.{Reply, done, refused, Outcome}
 use Rattle.stage.specs.Settings.{each, settings_of}
 use Rattle.stage.specs.Planes.{Planes, triple}
 use Rattle.stage.specs.Steps.{steps, places}
-use Rattle.stage.specs.Pixmap.{Header, header_of, raster_of, raster_planes}
-use Rattle.stage.specs.Search.{Estimated, Lent, search_call}
+use Rattle.stage.specs.declared.Header.{Header}
+use Rattle.stage.specs.Pixmap.{header_of, raster_of, raster_planes}
+use Rattle.stage.specs.declared.Estimated.{Estimated}
+use Rattle.stage.specs.Search.{Lent, search_call}
 use Rattle.report_text.specs.Text.{line, title, rct, ycocg_r, rdgdb, ldgeb, refusal_line}
 
 -- "The program lends trial planes for 2,048 pixels and 1,785 counters", here all zero
@@ -41,15 +43,14 @@ abbrev pub printed : Reply (List ℕ) → List ℕ
 printed (done l) = title ++ l
 printed (refused n) = refusal_line n
 
--- the text of a picture, by its header's numbers
-abbrev pub picture_text : ℕ → ℕ → ℕ → Planes → List ℕ
-picture_text w h d p = printed (lines (record { width = w; height = h; depth = d }) p)
-
 -- of a file, by its header and its raster
 abbrev pub lines_by : Reply Header → List ℕ → Reply (List ℕ)
 lines_by (done h) raster = lines h (raster_planes h.depth raster)
 lines_by (refused n) raster = refused n
 
 -- "Input above 8,192 bytes gives `refused 9` before its header is read."
+abbrev pub file_lines : List ℕ → Reply (List ℕ)
+file_lines file = cond (ltb 8192 (length file)) (refused 9) (lines_by (header_of file) (raster_of file))
+
 unfoldable pub report_of : List ℕ → List ℕ
-report_of file = printed (cond (ltb 8192 (length file)) (refused 9) (lines_by (header_of file) (raster_of file)))
+report_of file = printed (file_lines file)

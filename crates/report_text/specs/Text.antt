@@ -1,7 +1,7 @@
 -- The report's lines as text: lists of ASCII codes (01, "Pixmaps and the report").
 use Rattle.std.specs.Prelude.{List, [], ◌∷◌, ◌++◌, ℕ, ◌/◌, ◌%◌}
 use Rattle.stage.specs.Decimal.{numeral}
-use Rattle.stage.specs.Search.{Estimated}
+use Rattle.stage.specs.declared.Estimated.{Estimated}
 
 -- numbers, the first behind the byte s, the others each behind a comma [44]
 unfoldable pub separated : ℕ → List ℕ → List ℕ

@@ -1,62 +1,64 @@
-// The report's lines, each written at a place of a buffer; the answer is the place behind it.
-ghost use Rattle.std.specs.Prelude.{◌+◌, ◌≤◌, length};
-ghost use Rattle.text.specs.Written.{Written};
+// The report's lines, each written behind what stands there.
+ghost use Rattle.std.specs.Prelude.{◌≡◌, ◌+◌, ◌*◌, ◌≤◌, length};
+ghost use Rattle.stage.specs.Answers.{number_of};
 ghost use Rattle.report_text.specs.Text.{separated, numbers, line, refusal_line};
-ghost use Rattle.report_text.specs.Promises.{numbers_room, line_room, Room, WrittenIn, report_room, ReportAt};
+ghost use Rattle.report_text.specs.Promises.{numbers_room, line_room, Room, WrittenIn, Empty, ReportAt};
 
-use text::{put_byte, put_bytes, put_field};
+use stage::{Estimated, Refusal};
+use text::Writer;
 
-fn put_filters(text: &mut [u8], at: usize, filters: &[u8]) -> usize
-    requires { at + length (separated 32 filters.now) ≤ length text.old }
-    ensures { Written text.old at (separated 32 filters.now) text.new result }
+// A line's transform by name, its filters by place, and what the search found with them.
+#[derive(Clone, Copy)]
+pub struct Line<'a> {
+    pub name: &'a [u8],
+    pub filters: &'a [u8],
+    pub found: Estimated,
+}
+
+fn put_filters(to: &mut Writer, filters: &[u8])
+    requires { to.old.at + 4 * length filters.now ≤ length to.old.text.now }
+    ensures same { to.new.text.ghost_name ≡ to.old.text.ghost_name }
+    ensures written { WrittenIn to.old.text.now to.old.at (4 * length filters.now) (separated 32 filters.now) to.new.text.now to.new.at }
 {
-    let mut next = at;
     let mut separator = b' ';
-    let mut i = 0;
-    while i < filters.len() {
-        next = put_field(text, next, separator, filters[i] as u32);
+    for filter in filters {
+        to.put_field(separator, *filter as u32);
         separator = b',';
-        i += 1;
     }
-    next
 }
 
 // A search's estimate and number of samples, and what both give for each sample, with the rest.
-fn put_numbers(text: &mut [u8], at: usize, estimate: u32, samples: u32) -> usize
-    requires { Room text.old at numbers_room samples }
-    ensures { WrittenIn text.old at numbers_room (numbers (record { estimate = estimate; samples = samples })) text.new result }
+fn put_numbers(to: &mut Writer, found: Estimated)
+    requires { Room to.old.text.now to.old.at numbers_room found.samples }
+    ensures same { to.new.text.ghost_name ≡ to.old.text.ghost_name }
+    ensures written { WrittenIn to.old.text.now to.old.at numbers_room (numbers found) to.new.text.now to.new.at }
 {
-    let each = estimate / samples;
-    let rest = estimate % samples;
-    let a = put_field(text, at, b' ', estimate);
-    let b = put_field(text, a, b' ', samples);
-    let c = put_field(text, b, b' ', each);
-    put_field(text, c, b' ', rest)
+    let each = found.estimate / found.samples;
+    let rest = found.estimate % found.samples;
+    to.put_field(b' ', found.estimate);
+    to.put_field(b' ', found.samples);
+    to.put_field(b' ', each);
+    to.put_field(b' ', rest);
 }
 
-pub fn put_line(
-    text: &mut [u8],
-    at: usize,
-    name: &[u8],
-    filters: &[u8],
-    estimate: u32,
-    samples: u32,
-) -> usize
-    requires { Room text.old at (line_room name.now filters.now) samples }
-    ensures { WrittenIn text.old at (line_room name.now filters.now) (line name.now filters.now (record { estimate = estimate; samples = samples })) text.new result }
+pub fn put_line(to: &mut Writer, l: Line)
+    requires { Room to.old.text.now to.old.at (line_room l.name.now l.filters.now) l.found.samples }
+    ensures same { to.new.text.ghost_name ≡ to.old.text.ghost_name }
+    ensures written { WrittenIn to.old.text.now to.old.at (line_room l.entry.name.now l.entry.filters.now) (line l.entry.name.now l.entry.filters.now l.entry.found) to.new.text.now to.new.at }
 {
-    let a = put_bytes(text, at, name);
-    let b = put_filters(text, a, filters);
-    let c = put_numbers(text, b, estimate, samples);
-    put_byte(text, c, b'\n')
+    to.put_bytes(l.name);
+    put_filters(to, l.filters);
+    put_numbers(to, l.found);
+    to.put_byte(b'\n');
 }
 
 // The refusal is all of the report.
-pub fn put_refusal(text: &mut [u8], n: u32) -> usize
-    requires { report_room ≤ length text.old }
-    ensures { ReportAt text.old (refusal_line n) text.new result }
+pub fn put_refusal(to: &mut Writer, refusal: Refusal)
+    requires { Empty to.old.text.now to.old.at }
+    ensures same { to.new.text.ghost_name ≡ to.old.text.ghost_name }
+    ensures written { ReportAt to.old.text.now (refusal_line (number_of refusal)) to.new.text.now to.new.at }
 {
-    let a = put_bytes(text, 0, b"refused");
-    let b = put_field(text, a, b' ', n);
-    put_byte(text, b, b'\n')
+    to.put_bytes(b"refused");
+    to.put_field(b' ', refusal.number());
+    to.put_byte(b'\n');
 }

@@ -1,7 +1,8 @@
 -- What the exported functions on preview pixels return and are handed. The space is a number: 1 for HVSCT, 2 for YCoCg, 0 beside a refusal.
 use Rattle.std.specs.Prelude.{cond, ℕ, eqb, Float, ℤ, pos}
 use Rattle.stage.specs.Answers.{Reply, done, refused}
-use Rattle.stage.specs.Planes.{Triple, triple}
+use Rattle.stage.specs.declared.Triple.{Triple}
+use Rattle.stage.specs.Planes.{triple}
 use Rattle.preview.specs.declared.Pixel.{Pixel}
 use Rattle.preview.specs.declared.Rgb.{Rgb}
 use Rattle.preview.specs.Quarters.{Maybe, just, pixel_quarters}

@@ -1,14 +1,9 @@
 -- What the exported functions return: 0 for success, or a refusal's number. A struct's other fields are 0 on a refusal.
 use Rattle.std.specs.Prelude.{ℕ}
 use Rattle.stage.specs.Answers.{Reply, done, refused, Outcome, number}
-use Rattle.stage.specs.Search as search
-use Rattle.stage.specs.Pixmap as pixmap
-use Rattle.stage.specs.Graymap.{Size}
-use Rattle.search.specs.declared.Estimated.{Estimated}
-use Rattle.search.specs.Calls.{reply_of}
-use Rattle.graymap.specs.declared.answers.Stored.{Stored}
-use Rattle.graymap.specs.declared.answers.Restored.{Restored}
-use Rattle.graymap.specs.Replies.{stored_reply, restored_reply}
+use Rattle.stage.specs.declared.Estimated.{Estimated}
+use Rattle.stage.specs.declared.Header.{Header}
+use Rattle.stage.specs.declared.Size.{Size}
 use Rattle.rulantip.specs.declared.searches.RulantipEstimated.{RulantipEstimated}
 use Rattle.rulantip.specs.declared.files.RulantipPixmap.{RulantipPixmap}
 use Rattle.rulantip.specs.declared.files.RulantipWritten.{RulantipWritten}
@@ -27,17 +22,14 @@ abbrev pub numbered : {A M : Type 0} → Outcome A M → Returned ℕ M
 numbered o = returned (number o.reply) o.memory
 
 -- a struct with the refusal and the values
-abbrev pub estimated_by : Reply search.Estimated → RulantipEstimated
+abbrev pub estimated_by : Reply Estimated → RulantipEstimated
 estimated_by (done e) = record { refusal = 0; estimate = e.estimate; samples = e.samples }
 estimated_by (refused n) = record { refusal = n; estimate = 0; samples = 0 }
 
-abbrev pub estimated_of : Estimated → RulantipEstimated
-estimated_of r = estimated_by (reply_of r)
-
-abbrev pub estimated_returned : {M : Type 0} → Outcome search.Estimated M → Returned RulantipEstimated M
+abbrev pub estimated_returned : {M : Type 0} → Outcome Estimated M → Returned RulantipEstimated M
 estimated_returned o = returned (estimated_by o.reply) o.memory
 
-abbrev pub pixmap_returned : Reply pixmap.Header → RulantipPixmap
+abbrev pub pixmap_returned : Reply Header → RulantipPixmap
 pixmap_returned (done h) = record { refusal = 0; width = h.width; height = h.height; depth = h.depth }
 pixmap_returned (refused n) = record { refusal = n; width = 0; height = 0; depth = 0 }
 
@@ -45,18 +37,12 @@ abbrev pub written_by : Reply ℕ → RulantipWritten
 written_by (done n) = record { refusal = 0; length = n }
 written_by (refused n) = record { refusal = n; length = 0 }
 
-abbrev pub stored_of : Stored → RulantipWritten
-stored_of r = written_by (stored_reply r)
-
 abbrev pub written_returned : {M : Type 0} → Outcome ℕ M → Returned RulantipWritten M
 written_returned o = returned (written_by o.reply) o.memory
 
 abbrev pub graymap_by : Reply Size → RulantipGraymap
 graymap_by (done s) = record { refusal = 0; width = s.width; height = s.height }
 graymap_by (refused n) = record { refusal = n; width = 0; height = 0 }
-
-abbrev pub restored_of : Restored → RulantipGraymap
-restored_of r = graymap_by (restored_reply r)
 
 abbrev pub graymap_returned : {M : Type 0} → Outcome Size M → Returned RulantipGraymap M
 graymap_returned o = returned (graymap_by o.reply) o.memory

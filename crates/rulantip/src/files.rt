@@ -1,15 +1,16 @@
 // Pictures from P6 files, and finished planes to and from P5 files.
 ghost use Rattle.std.specs.Prelude.{◌≡◌};
+ghost use Rattle.stage.specs.Answers.{reply_of};
 ghost use Rattle.stage.specs.Planes.{triple};
 ghost use Rattle.stage.specs.Settings.{depths_of, settings_of};
 ghost use Rattle.stage.specs.Pixmap.{header_of, planes_of};
 ghost use Rattle.stage.specs.Graymap.{graymap_written, graymap_read};
-ghost use Rattle.rulantip.specs.Returned.{returned, numbered, pixmap_returned, stored_of, written_returned, restored_of, graymap_returned};
+ghost use Rattle.rulantip.specs.Returned.{returned, numbered, pixmap_returned, written_by, written_returned, graymap_by, graymap_returned};
 
 use crate::{depths, number, settings};
-use graymap::{Restored, Stored};
-use pixmap::Header;
+use stage::{Header, Refusal, Size, Triple};
 
+// C has no results: in each struct a refusal's number, or 0, stands beside the values. Each has a `From` of its own, as the fields differ.
 #[repr(C)]
 #[derive(Clone, Copy)]
 pub struct RulantipPixmap {
@@ -19,28 +20,32 @@ pub struct RulantipPixmap {
     pub depth: u32,
 }
 
+impl From<Result<Header, Refusal>> for RulantipPixmap {
+    ghost from_gives = { λ r s. s ≡ pixmap_returned (reply_of r) };
+
+    fn from(answer: Result<Header, Refusal>) -> RulantipPixmap {
+        match answer {
+            Ok(header) => RulantipPixmap {
+                refusal: 0,
+                width: header.width,
+                height: header.height,
+                depth: header.depth,
+            },
+            Err(refusal) => RulantipPixmap {
+                refusal: refusal.number(),
+                width: 0,
+                height: 0,
+                depth: 0,
+            },
+        }
+    }
+}
+
 #[unsafe(no_mangle)]
 pub extern "C" fn rulantip_p6_header(file: &[u8]) -> RulantipPixmap
     ensures { result ≡ pixmap_returned (header_of file.now) }
 {
-    match pixmap::header(file) {
-        Header::Picture {
-            width,
-            height,
-            depth,
-        } => RulantipPixmap {
-            refusal: 0,
-            width,
-            height,
-            depth,
-        },
-        Header::Refused(n) => RulantipPixmap {
-            refusal: n,
-            width: 0,
-            height: 0,
-            depth: 0,
-        },
-    }
+    RulantipPixmap::from(pixmap::header(file))
 }
 
 #[unsafe(no_mangle)]
@@ -52,7 +57,8 @@ pub extern "C" fn rulantip_p6_planes(
 ) -> u32
     ensures { returned result (triple c1.new c2.new c3.new) ≡ numbered (planes_of file.now (triple c1.old c2.old c3.old)) }
 {
-    number(pixmap::planes(file, c1, c2, c3))
+    let mut planes = Triple { c1, c2, c3 };
+    number(pixmap::planes(file, &mut planes))
 }
 
 #[repr(C)]
@@ -62,18 +68,17 @@ pub struct RulantipWritten {
     pub length: u32,
 }
 
-fn written(answer: Stored) -> RulantipWritten
-    ensures { result ≡ stored_of answer }
-{
-    match answer {
-        Stored::File { length } => RulantipWritten {
-            refusal: 0,
-            length: length,
-        },
-        Stored::Refused(n) => RulantipWritten {
-            refusal: n,
-            length: 0,
-        },
+impl From<Result<u32, Refusal>> for RulantipWritten {
+    ghost from_gives = { λ r s. s ≡ written_by (reply_of r) };
+
+    fn from(answer: Result<u32, Refusal>) -> RulantipWritten {
+        match answer {
+            Ok(length) => RulantipWritten { refusal: 0, length },
+            Err(refusal) => RulantipWritten {
+                refusal: refusal.number(),
+                length: 0,
+            },
+        }
     }
 }
 
@@ -92,7 +97,7 @@ pub extern "C" fn rulantip_p5_write(
     ensures { returned result file.new ≡ written_returned (graymap_written (settings_of width height (depths_of depth1 depth2 depth3) transform) plane samples.now file.old) }
 {
     let settings = settings(width, height, depth1, depth2, depth3, transform);
-    written(graymap::write(settings, plane, samples, file))
+    RulantipWritten::from(graymap::write(settings, plane, samples, file))
 }
 
 #[repr(C)]
@@ -103,20 +108,22 @@ pub struct RulantipGraymap {
     pub height: u32,
 }
 
-fn restored(answer: Restored) -> RulantipGraymap
-    ensures { result ≡ restored_of answer }
-{
-    match answer {
-        Restored::Plane { width, height } => RulantipGraymap {
-            refusal: 0,
-            width: width,
-            height: height,
-        },
-        Restored::Refused(n) => RulantipGraymap {
-            refusal: n,
-            width: 0,
-            height: 0,
-        },
+impl From<Result<Size, Refusal>> for RulantipGraymap {
+    ghost from_gives = { λ r s. s ≡ graymap_by (reply_of r) };
+
+    fn from(answer: Result<Size, Refusal>) -> RulantipGraymap {
+        match answer {
+            Ok(size) => RulantipGraymap {
+                refusal: 0,
+                width: size.width,
+                height: size.height,
+            },
+            Err(refusal) => RulantipGraymap {
+                refusal: refusal.number(),
+                width: 0,
+                height: 0,
+            },
+        }
     }
 }
 
@@ -133,5 +140,5 @@ pub extern "C" fn rulantip_p5_read(
     ensures { returned result samples.new ≡ graymap_returned (graymap_read (depths_of depth1 depth2 depth3) transform plane file.now samples.old) }
 {
     let depths = depths(depth1, depth2, depth3);
-    restored(graymap::read(depths, transform, plane, file, samples))
+    RulantipGraymap::from(graymap::read(depths, transform, plane, file, samples))
 }

@@ -1,14 +1,16 @@
 // The estimate and the search, with trial planes and in place, and how many counters they need.
 ghost use Rattle.std.specs.Prelude.{◌≡◌};
+ghost use Rattle.stage.specs.Answers.{reply_of};
 ghost use Rattle.stage.specs.Planes.{triple};
 ghost use Rattle.stage.specs.Settings.{depths_of, settings_of};
 ghost use Rattle.stage.specs.Search.{counters_call, estimate_call, search_call, estimate_in_place, search_in_place};
 ghost use Rattle.search.specs.Calls.{scratch_of, lent};
-ghost use Rattle.rulantip.specs.Returned.{returned, estimated_of, estimated_returned};
+ghost use Rattle.rulantip.specs.Returned.{returned, estimated_by, estimated_returned};
 
 use crate::{depths, settings};
-use search::Estimated;
+use stage::{Estimated, Refusal, Triple};
 
+// C has no results: a refusal's number, or 0, stands beside the values.
 #[repr(C)]
 #[derive(Clone, Copy)]
 pub struct RulantipEstimated {
@@ -17,20 +19,22 @@ pub struct RulantipEstimated {
     pub samples: u32,
 }
 
-fn returned(answer: Estimated) -> RulantipEstimated
-    ensures { result ≡ estimated_of answer }
-{
-    match answer {
-        Estimated::Done { estimate, samples } => RulantipEstimated {
-            refusal: 0,
-            estimate,
-            samples,
-        },
-        Estimated::Refused(n) => RulantipEstimated {
-            refusal: n,
-            estimate: 0,
-            samples: 0,
-        },
+impl From<Result<Estimated, Refusal>> for RulantipEstimated {
+    ghost from_gives = { λ r s. s ≡ estimated_by (reply_of r) };
+
+    fn from(answer: Result<Estimated, Refusal>) -> RulantipEstimated {
+        match answer {
+            Ok(found) => RulantipEstimated {
+                refusal: 0,
+                estimate: found.estimate,
+                samples: found.samples,
+            },
+            Err(refusal) => RulantipEstimated {
+                refusal: refusal.number(),
+                estimate: 0,
+                samples: 0,
+            },
+        }
     }
 }
 
@@ -61,7 +65,13 @@ pub extern "C" fn rulantip_estimate(
     ensures { returned result (scratch_of (triple t1.new t2.new t3.new) counters.new) ≡ estimated_returned (estimate_call (settings_of width height (depths_of depth1 depth2 depth3) transform) (triple c1.now c2.now c3.now) choices.now (scratch_of (triple t1.old t2.old t3.old) counters.old)) }
 {
     let settings = settings(width, height, depth1, depth2, depth3, transform);
-    returned(search::estimate(settings, choices, c1, c2, c3, t1, t2, t3, counters))
+    let picture = Triple { c1, c2, c3 };
+    let mut trials = Triple {
+        c1: t1,
+        c2: t2,
+        c3: t3,
+    };
+    RulantipEstimated::from(search::estimate(settings, choices, picture, &mut trials, counters))
 }
 
 #[unsafe(no_mangle)]
@@ -85,7 +95,14 @@ pub extern "C" fn rulantip_search(
     ensures { returned result (lent choices.new (triple t1.new t2.new t3.new) counters.new) ≡ estimated_returned (search_call (settings_of width height (depths_of depth1 depth2 depth3) transform) (triple c1.now c2.now c3.now) rounds (lent choices.old (triple t1.old t2.old t3.old) counters.old)) }
 {
     let settings = settings(width, height, depth1, depth2, depth3, transform);
-    returned(search::search(settings, rounds, choices, c1, c2, c3, t1, t2, t3, counters))
+    let picture = Triple { c1, c2, c3 };
+    let mut trials = Triple {
+        c1: t1,
+        c2: t2,
+        c3: t3,
+    };
+    let answer = search::search(settings, rounds, choices, picture, &mut trials, counters);
+    RulantipEstimated::from(answer)
 }
 
 #[unsafe(no_mangle)]
@@ -105,7 +122,8 @@ pub extern "C" fn rulantip_estimate_in_place(
     ensures { returned result (scratch_of (triple c1.new c2.new c3.new) counters.new) ≡ estimated_returned (estimate_in_place (settings_of width height (depths_of depth1 depth2 depth3) transform) choices.now (scratch_of (triple c1.old c2.old c3.old) counters.old)) }
 {
     let settings = settings(width, height, depth1, depth2, depth3, transform);
-    returned(in_place::estimate(settings, choices, c1, c2, c3, counters))
+    let mut planes = Triple { c1, c2, c3 };
+    RulantipEstimated::from(in_place::estimate(settings, choices, &mut planes, counters))
 }
 
 #[unsafe(no_mangle)]
@@ -126,5 +144,7 @@ pub extern "C" fn rulantip_search_in_place(
     ensures { returned result (lent choices.new (triple c1.new c2.new c3.new) counters.new) ≡ estimated_returned (search_in_place (settings_of width height (depths_of depth1 depth2 depth3) transform) rounds (lent choices.old (triple c1.old c2.old c3.old) counters.old)) }
 {
     let settings = settings(width, height, depth1, depth2, depth3, transform);
-    returned(in_place::search(settings, rounds, choices, c1, c2, c3, counters))
+    let planes = &mut Triple { c1, c2, c3 };
+    let answer = in_place::search(settings, rounds, choices, planes, counters);
+    RulantipEstimated::from(answer)
 }

@@ -1,55 +1,32 @@
 -- The calls past their tests: what the work on the copied picture asks holds, and its result is that of the definitions.
 use mathlib.Core.Path.{◌≡◌, refl, sym, ap, ◌∙◌, subst}
-use mathlib.Core.Bool.{Bool, true, false, cond}
+use mathlib.Core.Bool.{Bool, ◌&&◌}
 use mathlib.Core.List.{List, [], ◌∷◌, ◌++◌}
-use Prim.Native.Nat.{ℕ, zero, suc, ◌*◌, ◌≤◌, ◌<◌}
+use Prim.Native.Nat.{ℕ, zero, suc, ◌*◌, ◌<◌}
 use native.Mathlib.Omega.{arith}
-use lib.Dec.{eqb, eqb-suc-zero}
-use lib.IntN.{ℤ, pos}
-use lib.ListN.{length, take, drop, get_or, replicate, length-replicate}
-use Rattle.integers.proofs.Booleans.{true_holds}
-use Rattle.integers.proofs.Copies.{cleared_front}
+use lib.Dec.{T}
+use lib.ListN.{length, take, get_or, replicate, length-replicate}
 use Rattle.stage.specs.declared.Settings.{Settings}
-use Rattle.stage.specs.declared.Plane.{Plane}
 use Rattle.stage.specs.declared.Plane.TheVariants.{C1, C2, C3}
-use Rattle.stage.specs.Answers.{Test, ◌else◌, refusal, done, Outcome, between}
-use Rattle.stage.specs.Planes.{Triple, Planes, triple, get, map_triple}
-use Rattle.stage.specs.Steps.{steps, places}
+use Rattle.stage.specs.Answers.{Test, ◌else◌, refusal, between}
+use Rattle.stage.specs.declared.Triple.{Triple}
+use Rattle.stage.specs.Planes.{Planes, triple}
+use Rattle.stage.specs.Settings.{pixels}
 use Rattle.stage.specs.Ranges.{sample_ranges, widest}
 use Rattle.stage.specs.declared.Form.TheVariants.{Plain}
 use Rattle.stage.specs.declared.Bands.TheVariants.{One}
-use Rattle.stage.specs.Transform.{lengths, settings_tests, is_picture}
+use Rattle.stage.specs.declared.Estimated.{Estimated}
+use Rattle.stage.specs.Transform.{choices_fit, count_fits, lengths, settings_tests, is_picture, Picture}
 use Rattle.stage.specs.Estimate.{counted}
-use Rattle.stage.specs.Search.{cleared, cleared_scratch, scratch_fits, scratch_tests, searched, choices_estimate, estimated, winners}
+use Rattle.stage.specs.Search.{cleared, counters_fit, all_at_least, scratch_fits, scratch_tests, choices_estimate, estimated}
 use Rattle.stage.specs.Search as stage
-use Rattle.stage.proofs.Answers.{Holds, Numbered, holds_append}
-use Rattle.stage.proofs.Validity.{ValidSettings, settings_iff, has_size, length_at, ValidScratch, scratch_valid}
+use Rattle.stage.proofs.Answers.{Holds, Numbered, holds_append, refusal_holds}
+use Rattle.stage.proofs.Validity.{ValidSettings, settings_iff, has_size, scratch_valid}
 use Rattle.stage.proofs.Demand3.{within_ranges_iff}
-use Rattle.estimate.specs.Counting.{AllZero}
+use Rattle.estimate.specs.Counting.{AllZero, Counters}
 use Rattle.trials.specs.Searches.{PictureReady}
-use Rattle.search.specs.declared.Estimated.{Estimated}
-use Rattle.search.specs.declared.Estimated.TheVariants.{Done}
-use Rattle.search.specs.Calls.{outcome_of, scratch_of}
-use Rattle.search.specs.Copies.{Room, Prepared, AllCleared}
-
--- tests l, and then tests m
-pub refusal_then : (l m : List Test) → Numbered l → cond (eqb (refusal l) 0) (refusal m) (refusal l) ≡ refusal (l ++ m)
-refusal_then [] m k = refl
-refusal_then ((true else n) ∷ l) m k = refusal_then l m k.1
-refusal_then ((false else zero) ∷ l) m k = absurd k.0
-refusal_then ((false else suc n) ∷ l) m k = rw eqb-suc-zero
-
--- the tests of a search: those up to 9, whose refusal is n, and then that of the rounds
-pub search_refused : (s : Settings) (fit : Bool) (l : Triple ℕ) (fits : Bool) (rounds : ℕ) {n r : ℕ} → n ≡ refusal (scratch_tests s fit l fits)
-    → r ≡ cond (eqb n 0) (cond (between 1 4 rounds) 0 10) n → r ≡ refusal (scratch_tests s fit l fits ++ (between 1 4 rounds else 10) ∷ [])
-search_refused s fit l fits rounds e f =
-    f ∙ ap (λ (n : ℕ). cond (eqb n 0) (cond (between 1 4 rounds) 0 10) n) e
-    ∙ refusal_then (scratch_tests s fit l fits) ((between 1 4 rounds else 10) ∷ []) (tt, (tt, (tt, (tt, (tt, (tt, (tt, (tt, tt))))))))
-
--- the code's success as the definitions'
-pub success : {M : Type 0} {r : Estimated} {e n : ℕ} {m : M} {o : Outcome stage.Estimated M} → r ≡ Done e n
-    → record { reply = done (record { estimate = e; samples = n }); memory = m } ≡ o → outcome_of r m ≡ o
-success {m = m} f g = ap (λ (r : Estimated). outcome_of r m) f ∙ g
+use Rattle.search.specs.Calls.{estimate_tests, search_tests}
+use Rattle.search.specs.Copies.{Prepared, front, Inside, CopyReady}
 
 zero_cleared : (n : ℕ) → AllZero (replicate n 0)
 zero_cleared n = record { each = go n }
@@ -59,83 +36,93 @@ zero_cleared n = record { each = go n }
     go (suc n) zero = refl
     go (suc n) (suc x) = go n x
 
--- past the tests, with a picture p and counters l, which were lent and cleared
-pub picture_ready : {s : Settings} {fit : Bool} (p : Planes) (counters : List ℕ) {l : List ℕ} → ValidSettings Plain One s fit (lengths p) → 2 * widest s < length counters
-    → is_picture s p ≡ true → l ≡ cleared 0 counters → PictureReady s p l
-picture_ready {s} p counters v enough picture e = record {
-  allowed = v.allowed;
-  picture = record { size = has_size p v; samples = (within_ranges_iff (sample_ranges s) p).0 (true_holds picture) };
-  counters = record { enough = rw (e, length-replicate {A = ℕ} (length counters) 0) enough; zero = rw e (zero_cleared (length counters)) };
+-- counters that suffice, cleared
+pub counters_ready : (s : Settings) (counters : List ℕ) {l : List ℕ} → 2 * widest s < length counters → l ≡ cleared 0 counters → Counters (widest s) l
+counters_ready s counters enough e = record {
+  enough = rw (e, length-replicate {A = ℕ} (length counters) 0) enough;
+  zero = rw e (zero_cleared (length counters));
 }
 
--- past the tests up to 9, of picture p and lent trial planes t
-pub record Passed (s : Settings) (fit : Bool) (p t : Planes) (counters : List ℕ) : Type 0 where
-  pub settings : ValidSettings Plain One s fit (lengths p)
-  pub scratch : ValidScratch s (lengths t) (length counters)
+-- ---- the picture p copied to the front of the trial planes t, which are then u, and counters l cleared, which are then m
+module _ {s : Settings} {p t u : Planes} {l m : List ℕ} (r : CopyReady s p t l) (w : Prepared p t u l m) where
+  pub copied : front (pixels s) u ≡ p
+  copied =
+      let e1 = subst (λ (n : ℕ). take n u.c1 ≡ p.c1) (r.picture.size C1) w.c1 in
+      let e2 = subst (λ (n : ℕ). take n u.c2 ≡ p.c2) (r.picture.size C2) w.c2 in
+      let e3 = subst (λ (n : ℕ). take n u.c3 ≡ p.c3) (r.picture.size C3) w.c3 in
+      λ i. triple (e1 i) (e2 i) (e3 i)
 
-pub passed : (s : Settings) (fit : Bool) (p t : Planes) (counters : List ℕ) → Holds (scratch_tests s fit (lengths p) (scratch_fits s (lengths t) (length counters)))
-    → Passed s fit p t counters
-passed s fit p t counters h =
-    let n = length counters in
-    let both = (holds_append (settings_tests Plain One s fit (lengths p)) ((scratch_fits s (lengths t) n else 9) ∷ [])).0 h in
-    record { settings = (settings_iff Plain One s fit (lengths p)).0 both.0; scratch = scratch_valid s (lengths t) n both.1.0 }
+  pub copied_inside : Inside (pixels s) u
+  copied_inside =
+      let size = r.picture.size in
+      let e1 = ap (λ (x : Triple ℕ). x.c1) w.long in
+      let e2 = ap (λ (x : Triple ℕ). x.c2) w.long in
+      let e3 = ap (λ (x : Triple ℕ). x.c3) w.long in
+      record {
+        c1 = omega (arith, r.room.c1, e1, size C1);
+        c2 = omega (arith, r.room.c2, e2, size C2);
+        c3 = omega (arith, r.room.c3, e3, size C3);
+      }
 
-module _ {s : Settings} {fit : Bool} {p t : Planes} {counters : List ℕ} (h : Passed s fit p t counters) where
-  pub room : Room p t
-  room = let size = h.settings.size in let r = h.scratch.room in record {
-    c1 = omega (arith, size C1, r C1);
-    c2 = omega (arith, size C2, r C2);
-    c3 = omega (arith, size C3, r C3);
-  }
+  pub copied_ready : PictureReady s (front (pixels s) u) m
+  copied_ready = rw copied (record { allowed = r.allowed; picture = r.picture; counters = counters_ready s l r.enough w.counters })
 
--- a picture p, copied to the front of the trial planes, which are then x, and cleared counters l
-pub record Work (s : Settings) (fit : Bool) (p t : Planes) (counters : List ℕ) (x : Planes) (l : List ℕ) : Type 0 where
-  pub past : Passed s fit p t counters
-  pub picture : is_picture s p ≡ true
-  pub prepared : Prepared p x counters l
-  pub same : (c : Plane) → length (get x c) ≡ length (get t c)
+-- ---- tests that hold where the code went on past them
+pub settings_held : (s : Settings) (fit : Bool) (l : Triple ℕ) → 0 ≡ refusal (settings_tests Plain One s fit l) → Holds (settings_tests Plain One s fit l)
+settings_held s fit l e = refusal_holds (settings_tests Plain One s fit l) (tt, (tt, (tt, (tt, (tt, (tt, (tt, tt))))))) (sym e)
 
--- the part of planes that is lent to the work
-abbrev pub front : Planes → Planes → Planes
-front p x = map_triple (take (length p.c1)) x
+pub settings_valid : (s : Settings) (fit : Bool) (l : Triple ℕ) → 0 ≡ refusal (settings_tests Plain One s fit l) → ValidSettings Plain One s fit l
+settings_valid s fit l e = (settings_iff Plain One s fit l).0 (settings_held s fit l e)
 
-module _ {s : Settings} {fit : Bool} {p t : Planes} {counters : List ℕ} {x : Planes} {l : List ℕ} (w : Work s fit p t counters x l) where
-  size : (c : Plane) → get (lengths p) c ≡ s.width * s.height
-  size = w.past.settings.size
+pub scratch_held : (s : Settings) (fit : Bool) (l : Triple ℕ) (fits : Bool) → 0 ≡ refusal (scratch_tests s fit l fits) → Holds (scratch_tests s fit l fits)
+scratch_held s fit l fits e = refusal_holds (scratch_tests s fit l fits) (tt, (tt, (tt, (tt, (tt, (tt, (tt, (tt, tt)))))))) (sym e)
 
-  pub inside : (c : Plane) → length p.c1 ≤ length (get x c)
-  inside c = omega (arith, size C1, w.past.scratch.room c, length_at t c, w.same c)
+pub scratch_passed : (s : Settings) (fit : Bool) (l : Triple ℕ) (fits : Bool) → Holds (scratch_tests s fit l fits) → ValidSettings Plain One s fit l × T fits
+scratch_passed s fit l fits h =
+    let both = (holds_append (settings_tests Plain One s fit l) ((fits else 9) ∷ [])).0 h in
+    ((settings_iff Plain One s fit l).0 both.0, both.1.0)
 
-  front_is : front p x ≡ p
-  front_is =
-      let e2 = subst (λ (n : ℕ). take n x.c2 ≡ p.c2) (size C2 ∙ sym (size C1)) w.prepared.c2 in
-      let e3 = subst (λ (n : ℕ). take n x.c3 ≡ p.c3) (size C3 ∙ sym (size C1)) w.prepared.c3 in
-      λ i. triple (w.prepared.c1 i) (e2 i) (e3 i)
+-- the test of the scratch, where n is the length of the picture's first plane
+pub fits_is : (s : Settings) (t : Triple ℕ) (m : ℕ) {n : ℕ} {a b : Bool} → n ≡ pixels s → a ≡ all_at_least n t → b ≡ counters_fit s m → (a && b) ≡ scratch_fits s t m
+fits_is s t m e f g = rw (f, g, e)
 
-  pub ready : PictureReady s (front p x) l
-  ready =
-      subst (λ (q : Planes). PictureReady s q l) (sym front_is)
-      (picture_ready p counters w.past.settings w.past.scratch.enough w.picture w.prepared.counters)
+-- a last test after others
+pub last_held : (l : List Test) (b : Bool) (n : ℕ) → Numbered (l ++ (b else n) ∷ []) → 0 ≡ refusal (l ++ (b else n) ∷ []) → Holds l × T b
+last_held l b n k e = let h = (holds_append l ((b else n) ∷ [])).0 (refusal_holds (l ++ (b else n) ∷ []) k (sym e)) in (h.0, h.1.0)
 
-  -- the estimate e that the work found for choices φ, with N
-  pub answered : (φ : List ℕ) (e : ℕ) → e ≡ choices_estimate s (front p x) φ → record { estimate = e; samples = counted (length p.c1) } ≡ estimated s p φ
-  answered φ e f =
-      λ i. record { estimate = (f ∙ ap (λ (q : Planes). choices_estimate s q φ) front_is) i; samples = counted (size C1 i) }
+pub picture_held : {s : Settings} {fit : Bool} {p : Planes} → ValidSettings Plain One s fit (lengths p) → T (is_picture s p) → Picture s p
+picture_held {s} {fit} {p} v h = record { size = has_size p v; samples = (within_ranges_iff (sample_ranges s) p).0 h }
 
-  pub won : (rounds : ℕ) (φ : List ℕ) → φ ≡ searched (choices_estimate s (front p x)) (places (steps s.transform)) rounds → φ ≡ winners s p rounds
-  won rounds φ e = e ∙ ap (λ (q : Planes). winners s q rounds) front_is
+-- past the tests, of picture p and lent trial planes t
+pub work_ready : (s : Settings) (fit : Bool) (p t : Planes) (l : List ℕ) → Holds (scratch_tests s fit (lengths p) (scratch_fits s (lengths t) (length l))) → T (is_picture s p)
+    → CopyReady s p t l
+work_ready s fit p t l h picture =
+    let both = scratch_passed s fit (lengths p) (scratch_fits s (lengths t) (length l)) h in
+    let v = scratch_valid s (lengths t) (length l) both.1 in
+    let size = both.0.size in
+    let r = v.room in
+    record {
+      allowed = both.0.allowed;
+      picture = picture_held both.0 picture;
+      room = record { c1 = omega (arith, size C1, r C1); c2 = omega (arith, size C2, r C2); c3 = omega (arith, size C3, r C3) };
+      enough = v.enough;
+    }
 
-  -- one plane, whose front was lent, cleared
-  plane_left : (c : Plane) (q : List ℤ) {y : List ℤ} → length q ≡ length (take (length p.c1) (get x c)) → y ≡ cleared (pos 0) (q ++ drop (length p.c1) (get x c))
-      → y ≡ cleared (pos 0) (get t c)
-  plane_left c q e f = cleared_front (pos 0) (length p.c1) (get x c) q f e ∙ ap (λ (n : ℕ). replicate n (pos 0)) (w.same c)
+pub estimate_ready : (s : Settings) (φ : List ℕ) (p t : Planes) (l : List ℕ) → 0 ≡ refusal (estimate_tests s φ p (scratch_fits s (lengths t) (length l))) → CopyReady s p t l
+estimate_ready s φ p t l e =
+    let fit = choices_fit One s φ in
+    let first = scratch_tests s fit (lengths p) (scratch_fits s (lengths t) (length l)) in
+    let h = last_held first (is_picture s p) 11 (tt, (tt, (tt, (tt, (tt, (tt, (tt, (tt, (tt, tt))))))))) e in
+    work_ready s fit p t l h.0 h.1
 
-  -- the work left its part q as long and the counters m as they were, and then the planes are cleared
-  pub left : (q r : Planes) (m : List ℕ) → ((c : Plane) → length (get q c) ≡ length (get (front p x) c)) → m ≡ l
-      → AllCleared (triple (q.c1 ++ drop (length p.c1) x.c1) (q.c2 ++ drop (length p.c1) x.c2) (q.c3 ++ drop (length p.c1) x.c3)) r
-      → scratch_of r m ≡ cleared_scratch (scratch_of t counters)
-  left q r m e g f =
-      let e1 = plane_left C1 q.c1 (e C1) f.c1 in
-      let e2 = plane_left C2 q.c2 (e C2) f.c2 in
-      let e3 = plane_left C3 q.c3 (e C3) f.c3 in
-      λ i. scratch_of (triple (e1 i) (e2 i) (e3 i)) ((g ∙ w.prepared.counters) i)
+pub search_ready : (s : Settings) (rounds n : ℕ) (p t : Planes) (l : List ℕ) → 0 ≡ refusal (search_tests s rounds n p (scratch_fits s (lengths t) (length l))) → CopyReady s p t l
+search_ready s rounds n p t l e =
+    let fit = count_fits One s n in
+    let fits = scratch_fits s (lengths t) (length l) in
+    let h = last_held (stage.search_tests s p fits rounds n) (is_picture s p) 11 (tt, (tt, (tt, (tt, (tt, (tt, (tt, (tt, (tt, (tt, tt)))))))))) e in
+    work_ready s fit p t l ((holds_append (scratch_tests s fit (lengths p) fits) ((between 1 4 rounds else 10) ∷ [])).0 h.0).0 h.1
+
+-- the answer's two numbers
+pub answered : {s : Settings} {p : Planes} {r : Estimated} (φ : List ℕ) (e : ℕ) → Picture s p → e ≡ choices_estimate s p φ
+    → r ≡ record { estimate = e; samples = counted (length p.c1) } → r ≡ estimated s p φ
+answered {s} {p} φ e x f g = g ∙ λ i. record { estimate = f i; samples = counted (x.size C1 i) }

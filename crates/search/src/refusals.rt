@@ -1,13 +1,15 @@
-// What the calling program can get wrong beyond a transform's settings, in 01's order, from numbers and lengths alone.
-ghost use Rattle.std.specs.Prelude.{◌≡◌, cond, eqb};
-ghost use Rattle.stage.specs.Answers.{refusal, between};
-ghost use Rattle.stage.specs.Planes.{triple};
+// What the calling program, or whoever made the samples, can get wrong, in 01's order. Of lent memory the lengths alone are told.
+ghost use Rattle.std.specs.Prelude.{◌≡◌};
+ghost use Rattle.stage.specs.Answers.{refusal, number, reply_of};
+ghost use Rattle.stage.specs.Planes.{samples};
 ghost use Rattle.stage.specs.Settings.{Allowed};
 ghost use Rattle.stage.specs.Search.{counters_fit, all_at_least, scratch_fits, scratch_tests};
+ghost use Rattle.search.specs.Calls.{estimate_tests, search_tests};
 
-use ranges::counters_needed;
-use stage::{Bands, Form, Plan, Settings, is_between, select};
-use transform::settings::refusal;
+use lifting::passes::places;
+use ranges::{counters_needed, is_picture};
+use stage::{Bands, Plan, Planes, Refusal, Settings, Triple, is_between, require};
+use transform::settings::{check, choices_fit};
 
 fn counters_fit(settings: Settings, counters: usize) -> bool
     requires { Allowed settings }
@@ -16,61 +18,56 @@ fn counters_fit(settings: Settings, counters: usize) -> bool
     counters_needed(settings.depths, settings.transform) as usize <= counters
 }
 
-// The number of the first test up to 9 that fails, or 0, where counters are all the scratch. `choices` says whether the call's own
-// test of the choices holds; n1, n2 and n3 are the lengths of the picture's planes.
-pub fn counters_refusal(
+// Whether each trial plane has room for n numbers.
+fn planes_fit(n: usize, trials: Triple<usize>) -> bool
+    ensures { result ≡ all_at_least n trials }
+{
+    (n <= trials.c1) & ((n <= trials.c2) & (n <= trials.c3))
+}
+
+// The tests up to 9. `choices` says whether the call's own test of the choices holds.
+fn check_scratch(
     settings: Settings,
     choices: bool,
-    n1: usize,
-    n2: usize,
-    n3: usize,
+    lengths: Triple<usize>,
+    trials: Triple<usize>,
     counters: usize,
-) -> u32
-    ensures { result ≡ refusal (scratch_tests settings choices (triple n1 n2 n3) (counters_fit settings counters)) }
+) -> Result<(), Refusal>
+    ensures { number (reply_of result) ≡ refusal (scratch_tests settings choices lengths (scratch_fits settings trials counters)) }
 {
-    let plan = Plan {
-        settings: settings,
-        form: Form::Plain,
-        bands: Bands::One,
-    };
-    let n = refusal(plan, choices, n1, n2, n3);
-    if n != 0 {
-        return n;
-    }
-    select(counters_fit(settings, counters), 0, 9)
+    check(Plan::from(settings), choices, lengths)?;
+    let fits = planes_fit(lengths.c1, trials) & counters_fit(settings, counters);
+    require(fits, Refusal::Scratch)
 }
 
-// Whether trial planes of m1, m2 and m3 numbers have room for n each.
-fn planes_fit(n: usize, m1: usize, m2: usize, m3: usize) -> bool
-    ensures { result ≡ all_at_least n (triple m1 m2 m3) }
-{
-    (n <= m1) & ((n <= m2) & (n <= m3))
-}
-
-// The same with trial planes, of m1, m2 and m3 numbers.
-pub fn scratch_refusal(
+// The tests of an estimate: 2, 5, 6, 7, 8, 9, 11.
+pub fn check_estimate(
     settings: Settings,
-    choices: bool,
-    n1: usize,
-    n2: usize,
-    n3: usize,
-    m1: usize,
-    m2: usize,
-    m3: usize,
+    choices: &[u8],
+    picture: Planes,
+    trials: Triple<usize>,
     counters: usize,
-) -> u32
-    ensures { result ≡ refusal (scratch_tests settings choices (triple n1 n2 n3) (scratch_fits settings (triple m1 m2 m3) counters)) }
+) -> Result<(), Refusal>
+    ensures { number (reply_of result) ≡ refusal (estimate_tests settings choices.now (samples picture.entry) (scratch_fits settings trials counters)) }
 {
-    let first = counters_refusal(settings, choices, n1, n2, n3, counters);
-    if first != 0 {
-        return first;
-    }
-    select(planes_fit(n1, m1, m2, m3), 0, 9)
+    let fit = choices_fit(settings, Bands::One, choices);
+    check_scratch(settings, fit, picture.lengths(), trials, counters)?;
+    require(is_picture(settings, picture), Refusal::Sample)
 }
 
-// A search tests its rounds behind that: `first` is the number of the first test up to 9 that fails, or 0.
-pub fn search_refusal(first: u32, rounds: u32) -> u32
-    ensures { result ≡ cond (eqb first 0) (cond (between 1 4 rounds) 0 10) first }
+// The tests of a search that is lent so many choices: as above, and 10 for the rounds before 11.
+pub fn check_search(
+    settings: Settings,
+    rounds: u32,
+    choices: usize,
+    picture: Planes,
+    trials: Triple<usize>,
+    counters: usize,
+) -> Result<(), Refusal>
+    ensures { number (reply_of result) ≡ refusal (search_tests settings rounds choices (samples picture.entry) (scratch_fits settings trials counters)) }
 {
-    select(first == 0, select(is_between(1, 4, rounds), 0, 10), first)
+    let fit = choices == places(settings.transform);
+    check_scratch(settings, fit, picture.lengths(), trials, counters)?;
+    require(is_between(1, 4, rounds), Refusal::Rounds)?;
+    require(is_picture(settings, picture), Refusal::Sample)
 }

@@ -1,40 +1,40 @@
 // The pictures that are searched.
-ghost use Rattle.std.specs.Prelude.{◌≡◌, ◌≤◌, ◌<◌, ◌%◌};
-ghost use Rattle.case_pictures.specs.Generated.{Levels};
-ghost use Rattle.search_cases.specs.Slopes.{Fillable};
+ghost use Rattle.std.specs.Prelude.{◌≤◌};
+ghost use Rattle.stage.specs.Settings.{UpTo16};
 
-use case_pictures::next;
-use stage::Depths;
+use case_pictures::{Generator, Levels};
+use stage::{Depths, PlanesMut};
 
 // A picture's samples: in each plane a slope with the generator's noise on it, modulo M + 1 of the plane's depth. The slope begins at
-// `start`.
+// the seed, as the generator does.
 #[derive(Clone, Copy)]
 pub(crate) struct Slope {
     pub(crate) depths: Depths,
     pub(crate) noise: u32,
     pub(crate) step: u32,
-    pub(crate) start: u32,
+    pub(crate) seed: u32,
+    ghost shallow: { UpTo16 depths },
+    ghost noisy: { 1 ≤ noise },
+    ghost noisiest: { noise ≤ 65536 },
+    ghost steepest: { step ≤ 65536 },
+    ghost last_seed: { seed ≤ 65536 },
 }
 
-fn remainder(n: u32, m: u32) -> u32
-    requires { (1 ≤ m) × (m ≤ 65536) }
-    ensures { (result ≡ n % m) × (result < 65536) }
-{
-    n % m
-}
-
-// Fills a plane whose samples have so many values, and answers the generator's last number.
-pub(crate) fn fill(plane: &mut [i32], s: Slope, levels: u32, x: u32) -> u32
-    requires { Fillable s × Levels levels }
-{
-    let mut y = x;
-    let mut base = s.start;
-    let mut i = 0;
-    while i < plane.len() {
-        y = next(y);
-        plane[i] = remainder(base + remainder(y / 65536, s.noise), levels) as i32;
-        base = remainder(base + s.step, levels);
-        i += 1;
+impl Slope {
+    fn fill_plane(self, generator: &mut Generator, plane: &mut [i32], levels: Levels) {
+        let mut base = self.seed;
+        for z in plane.iter_mut() {
+            let noise = generator.draw() / 65536 % self.noise;
+            *z = ((base + noise) % levels.count) as i32;
+            base = (base + self.step) % levels.count;
+        }
     }
-    y
+
+    pub(crate) fn fill(self, planes: &mut PlanesMut) {
+        let depths = self.depths;
+        let mut generator = Generator { x: self.seed };
+        self.fill_plane(&mut generator, planes.c1, Levels::of(depths.c1));
+        self.fill_plane(&mut generator, planes.c2, Levels::of(depths.c2));
+        self.fill_plane(&mut generator, planes.c3, Levels::of(depths.c3));
+    }
 }

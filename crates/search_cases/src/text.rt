@@ -1,17 +1,28 @@
 // Pieces of the lines that are printed.
-use case_text::{print, print_field, print_filters};
-use search::Estimated;
-use std::io;
+use crate::picture::Slope;
+use stage::{Estimated, Refusal};
+use std::fmt;
 
-// The filters, and what a call answers of them.
-pub(crate) fn print_answer<R: Print>(rt: &R, filters: &[u8], answer: Estimated) -> io::Result<()> {
-    print_filters(rt, filters)?;
-    match answer {
-        Estimated::Done { estimate, samples } => {
-            print_field(rt, b" estimate", estimate)?;
-            print_field(rt, b" samples", samples)?;
-        }
-        Estimated::Refused(n) => print_field(rt, b" refused", n)?,
+impl fmt::Display for Slope {
+    fn fmt<W: fmt::Write>(&self, f: &mut fmt::Formatter<W>) -> fmt::Result {
+        let noise = self.noise;
+        let step = self.step;
+        let seed = self.seed;
+        write!(f, "noise {noise} step {step} seed {seed}")
     }
-    print(rt, b"\n")
+}
+
+// What a call answers.
+#[derive(Clone, Copy)]
+pub(crate) struct AnswerText(pub(crate) Result<Estimated, Refusal>);
+
+impl fmt::Display for AnswerText {
+    fn fmt<W: fmt::Write>(&self, f: &mut fmt::Formatter<W>) -> fmt::Result {
+        match self.0 {
+            Ok(Estimated { estimate, samples }) => {
+                write!(f, "estimate {estimate} samples {samples}")
+            }
+            Err(refusal) => write!(f, "{refusal}"),
+        }
+    }
 }

@@ -8,7 +8,8 @@ use native.Mathlib.Omega.{arith}
 use lib.Dec.{T, ltb, leb, eqb, leb→le, le→leb, eqb-suc-zero}
 use borrow.Author.Tests.{ne_eqb}
 use Rattle.integers.proofs.Booleans.{and_iff}
-use Rattle.stage.specs.Answers.{done, refused, Test, ◌else◌, refusal, reply_by, answer, Outcome, outcome, between, sized}
+use Rattle.std.specs.Prelude.{Result, Ok, Err}
+use Rattle.stage.specs.Answers.{done, refused, Test, ◌else◌, refusal, reply_by, answer, Outcome, outcome, Refusal, Header, Size, Maxval, Raster, Depth, Transform, Choices, Plane, Scratch, Rounds, Wide, Buffer, Unequal, Band, Sample, Unreached, Preview, number_of, number, reply_of, outcome_of, between, sized}
 
 -- every test holds
 abbrev pub Holds : List Test → Type 0
@@ -30,10 +31,6 @@ refusal_holds [] k e = tt
 refusal_holds ((true else n) ∷ l) k e = (tt, refusal_holds l k.1 e)
 refusal_holds ((false else zero) ∷ l) k e = absurd k.0
 refusal_holds ((false else suc n) ∷ l) k e = absurd (omega arith)
-
--- a test as the code made it, before later tests that gave n
-pub test_made : {made is : Bool} {n later r : ℕ} (m : ℕ) → made ≡ is → n ≡ later → r ≡ cond made n m → r ≡ cond is later m
-test_made m f g e = e ∙ (λ o. cond (f o) (g o) m)
 
 -- past tests that hold the rest decides
 pub refusal_past : (l m : List Test) → Holds l → refusal (l ++ m) ≡ refusal m
@@ -153,6 +150,56 @@ decides {A} {M} l b m v result before k n e =
           ap₂ (λ (x : A) (y : M). record { reply = done x; memory = y }) g h
           ∙ sym (outcome_done v result before tests (last z ∙ ap (λ (x : Bool). cond x 0 m) t));
     }
+
+-- ---- The code makes the tests of l and answers an error where one fails.
+numbered : (e : Refusal) → T (ltb 0 (number_of e))
+numbered Header = tt
+numbered e = tt
+
+pub number_positive : (e : Refusal) → number_of e ≡ 0 → ⊥
+number_positive e = positive (number_of e) (numbered e)
+
+-- a number is one refusal's
+abbrev refusal_numbered : ℕ → Refusal
+refusal_numbered n =
+    cond (eqb n 1) Header (cond (eqb n 2) Size (cond (eqb n 3) Maxval (cond (eqb n 4) Raster (cond (eqb n 5) Depth (cond (eqb n 6) Transform (cond (eqb n 7) Choices (cond (eqb n 8) Plane
+    (cond (eqb n 9) Scratch (cond (eqb n 10) Rounds (cond (eqb n 11) Sample (cond (eqb n 12) Unreached (cond (eqb n 13) Wide (cond (eqb n 14) Buffer (cond (eqb n 15) Preview (cond (eqb n 16) Unequal Band)))))))))))))))
+
+number_back : (e : Refusal) → refusal_numbered (number_of e) ≡ e
+number_back Header = refl
+number_back e = refl
+
+-- an answer is known by its reply
+module _ {A : Type 0} where
+  pub reply_ok : (r : Result A Refusal) (v : A) → reply_of r ≡ done v → r ≡ Ok v
+  reply_ok (Ok u) v e = cc
+  reply_ok (Err f) v e = let z : ◌≡◌ {A = ℕ} 0 1 = cc in absurd (omega arith)
+
+  pub reply_err : (r : Result A Refusal) (e : Refusal) → reply_of r ≡ refused (number_of e) → r ≡ Err e
+  reply_err (Ok u) e k = let z : ◌≡◌ {A = ℕ} 0 1 = cc in absurd (omega arith)
+  reply_err (Err f) e k = let n : number_of f ≡ number_of e = cc in ap (λ (x : Refusal). Err x) (sym (number_back f) ∙ ap refusal_numbered n ∙ number_back e)
+
+  pub reply_is : (r q : Result A Refusal) → reply_of r ≡ reply_of q → r ≡ q
+  reply_is r (Ok v) e = reply_ok r v e
+  reply_is r (Err f) e = reply_err r f e
+
+-- the first tests hold, and one more is made
+pub last_made : (l : List Test) (b : Bool) (e : Refusal) {r : Result (Unit {0}) Refusal} → Holds l → r ≡ cond b (Ok tt) (Err e)
+    → number (reply_of r) ≡ refusal (l ++ (b else number_of e) ∷ [])
+last_made l b e h k = rw k (by b ∙ sym (refusal_past l ((b else number_of e) ∷ []) h))
+  where
+    by : (b : Bool) → number (reply_of {A = Unit {0}} (cond b (Ok tt) (Err e))) ≡ cond b 0 (number_of e)
+    by true = refl
+    by false = refl
+
+module _ {A M : Type 0} (l : List Test) (v : A) (result before : M) where
+  -- a call that ends with that error
+  pub err_outcome : (e : Refusal) → number_of e ≡ refusal l → outcome_of {A = A} (Err e) before ≡ outcome l v result before
+  err_outcome e k = sym (outcome_refused v result before l (number_of e) k (number_positive e))
+
+  -- a call that goes on past the tests and is done
+  pub ok_outcome : 0 ≡ refusal l → outcome_of (Ok v) result ≡ outcome l v result before
+  ok_outcome k = sym (outcome_done v result before l (sym k))
 
 -- ---- tests of numbers
 pub between_iff : (low high n : ℕ) → T (between low high n) ↔ ((low ≤ n) × (n ≤ high))

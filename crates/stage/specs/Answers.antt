@@ -1,8 +1,8 @@
 -- Answers, refusals in their order, and what lent memory holds afterwards (01, "Who can cause which refusal"). b is a truth value, n a
 -- refusal's number, l a list of tests, v the values answered, w and h are width and height.
-use Rattle.std.specs.Prelude.{Bool, cond, ◌&&◌, List, [], ◌∷◌, ℕ, leb, eqb}
-use Rattle.stage.specs.declared.Answer.{Answer}
-use Rattle.stage.specs.declared.Answer.TheVariants.{Done, Refused}
+use Rattle.std.specs.Prelude.{Bool, cond, ◌&&◌, List, [], ◌∷◌, ℕ, leb, eqb, Result, Ok, Err}
+pub use Rattle.stage.specs.declared.Refusal.{Refusal}
+pub use Rattle.stage.specs.declared.Refusal.TheVariants.{Header, Size, Maxval, Raster, Depth, Transform, Choices, Plane, Scratch, Rounds, Wide, Buffer, Unequal, Band, Sample, Unreached, Preview}
 
 -- success with its values, or a refusal's number alone
 pub data Reply (A : Type 0) : Type 0 where
@@ -35,13 +35,33 @@ pub record Outcome (A M : Type 0) : Type 0 where
 abbrev pub outcome : {A M : Type 0} → (l : List Test) (v : A) (result before : M) → Outcome A M
 outcome l v result before = record { reply = answer l v; memory = cond (eqb (refusal l) 0) result before }
 
+-- 01's number of a refusal; 13 and 14, 15, 16 and 17 are those of requests 4, 6, 9 and 11 (02)
+abbrev pub number_of : Refusal → ℕ
+number_of Header = 1
+number_of Size = 2
+number_of Maxval = 3
+number_of Raster = 4
+number_of Depth = 5
+number_of Transform = 6
+number_of Choices = 7
+number_of Plane = 8
+number_of Scratch = 9
+number_of Rounds = 10
+number_of Wide = 13
+number_of Buffer = 14
+number_of Unequal = 16
+number_of Band = 17
+number_of Sample = 11
+number_of Unreached = 12
+number_of Preview = 15
+
 -- the code's answer as 01's: a refusal gives its number alone
-abbrev pub reply_of : Answer → Reply (Unit {0})
-reply_of Done = done tt
-reply_of (Refused n) = refused n
+abbrev pub reply_of : {A : Type 0} → Result A Refusal → Reply A
+reply_of (Ok v) = done v
+reply_of (Err e) = refused (number_of e)
 
 -- with what the lent memory then holds
-abbrev pub outcome_of : {M : Type 0} → Answer → M → Outcome (Unit {0}) M
+abbrev pub outcome_of : {A M : Type 0} → Result A Refusal → M → Outcome A M
 outcome_of r m = record { reply = reply_of r; memory = m }
 
 -- the number that C callers see: 0 for success

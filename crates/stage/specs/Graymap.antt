@@ -9,6 +9,8 @@ use Rattle.stage.specs.Ranges.{Range, finished_ranges, extent, within_range}
 use Rattle.stage.specs.Decimal.{numeral}
 use Rattle.stage.specs.Raster.{raster_samples, samples_raster}
 use Rattle.stage.specs.Pixmap.{HeaderText, header_text, Graymap, file_tests}
+-- "Read such files back to the same plane, with the P6 header rules; the answer is width and height."
+pub use Rattle.stage.specs.declared.Size.{Size}
 
 -- planes are numbered 1 to 3
 abbrev pub plane_of : ℕ → Plane
@@ -55,11 +57,6 @@ unfoldable pub graymap_written : (s : Settings) (n : ℕ) (a : List ℤ) (buffer
 graymap_written s n a buffer =
     let file = graymap_of s.width s.height (plane_range s.depths s.transform n) a in
     outcome (write_tests s n a (length buffer)) (length file) (file ++ drop (length file) buffer) buffer
-
--- "Read such files back to the same plane, with the P6 header rules; the answer is width and height."
-pub record Size : Type 0 where
-  pub width : ℕ
-  pub height : ℕ
 
 -- the plane of a raster
 abbrev pub raster_plane : Range → List ℕ → List ℤ

@@ -11,6 +11,8 @@ use Rattle.stage.specs.Raster.{sample_bytes, raster_samples}
 use Rattle.stage.specs.Transform.{lengths, all_equal}
 pub use Rattle.stage.specs.declared.Kind.{Kind}
 pub use Rattle.stage.specs.declared.Kind.TheVariants.{Pixmap, Graymap}
+-- "One call gives the refusal, or width, height and depth"
+pub use Rattle.stage.specs.declared.Header.{Header}
 
 -- "White space is blank, tab, line feed, vertical tab, form feed or carriage return": 32, or 9 to 13
 unfoldable pub is_white : ℕ → Bool
@@ -109,12 +111,6 @@ file_tests k t =
 -- a file of kind k, read: its header's text, or the refusal
 unfoldable pub file_of : Kind → List ℕ → Reply HeaderText
 file_of k file = let t = header_text (letter k) file in answer (file_tests k t) t
-
--- "One call gives the refusal, or width, height and depth"
-pub record Header : Type 0 where
-  pub width : ℕ
-  pub height : ℕ
-  pub depth : ℕ
 
 abbrev pub text_header : HeaderText → Header
 text_header t = record { width = t.width; height = t.height; depth = depth_of t.maxval }

@@ -1,14 +1,11 @@
 -- Planes 1, 2 and 3 (01, "Planes and steps").
 -- t stands for three of anything, one for each plane; a, b and c for what planes 1, 2 and 3 have of it.
-use Rattle.std.specs.Prelude.{Bool, true, false, List, ℤ}
+use Rattle.std.specs.Prelude.{◌≡◌, Bool, true, false, List, ℤ}
+use Rattle.std.specs.Borrow.{Bor, MutBor}
 pub use Rattle.stage.specs.declared.Plane.{Plane}
 pub use Rattle.stage.specs.declared.Plane.TheVariants.{C1, C2, C3}
-
 -- one of anything for each plane: their samples, their ranges, their lengths
-pub record Triple (A : Type 0) : Type 0 where
-  pub c1 : A
-  pub c2 : A
-  pub c3 : A
+pub use Rattle.stage.specs.declared.Triple.{Triple}
 
 -- the samples of three planes, row by row, in whole numbers without limit
 abbrev pub Planes : Type 0
@@ -41,3 +38,16 @@ module _ {A : Type 0} where
 
 abbrev pub map_triple : {A B : Type 0} → (A → B) → Triple A → Triple B
 map_triple f t = triple (f t.c1) (f t.c2) (f t.c3)
+
+-- the samples of lent planes
+abbrev pub samples : Triple (Bor (List ℤ)) → Planes
+samples t = triple t.c1.now t.c2.now t.c3.now
+
+abbrev pub samples_mut : Triple (MutBor (List ℤ)) → Planes
+samples_mut t = triple t.c1.now t.c2.now t.c3.now
+
+-- the planes that were lent are lent still, whatever they hold
+pub record SameReferences (t u : Triple (MutBor (List ℤ))) : Type 0 where
+  pub first : u.c1.ghost_name ≡ t.c1.ghost_name
+  pub second : u.c2.ghost_name ≡ t.c2.ghost_name
+  pub third : u.c3.ghost_name ≡ t.c3.ghost_name

@@ -9,6 +9,8 @@ use Rattle.stage.specs.Steps.{steps, places}
 use Rattle.stage.specs.Ranges.{widest}
 use Rattle.stage.specs.Transform.{settings_tests, count_fits, choices_fit, lengths, is_picture, transformed}
 use Rattle.stage.specs.Estimate.{counted, picture_estimate}
+-- what both calls answer: the estimate, and N
+pub use Rattle.stage.specs.declared.Estimated.{Estimated}
 
 -- The search, for any estimate e of the choices.
 module _ (e : List ℕ → ℕ) where
@@ -34,11 +36,6 @@ module _ (e : List ℕ → ℕ) where
 -- The estimate of picture p under choices φ. "Searches, estimates .. keep to the unwrapped forms" (02, request 9).
 unfoldable pub choices_estimate : Settings → Planes → List ℕ → ℕ
 choices_estimate s p φ = picture_estimate s.width (transformed Plain One s φ p)
-
--- what both calls answer: the estimate, and N
-pub record Estimated : Type 0 where
-  pub estimate : ℕ
-  pub samples : ℕ
 
 -- 2 × D + 1 counters
 abbrev pub counters_needed : Settings → ℕ

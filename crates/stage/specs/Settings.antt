@@ -7,16 +7,18 @@
 -- number.
 use Rattle.std.specs.Prelude.{Bool, true, ◌&&◌, ℕ, ◌+◌, ◌*◌, ◌-◌, ◌/◌, ◌≤◌, eqb}
 pub use Rattle.stage.specs.declared.Settings.{Settings}
-pub use Rattle.stage.specs.declared.Depths.{Depths}
 pub use Rattle.stage.specs.declared.Form.{Form}
 pub use Rattle.stage.specs.declared.Form.TheVariants.{Plain, Wrapped}
 pub use Rattle.stage.specs.declared.Bands.{Bands}
 pub use Rattle.stage.specs.declared.Bands.TheVariants.{One, Of}
 pub use Rattle.stage.specs.declared.Plan.{Plan}
 use Rattle.stage.specs.Answers.{between}
-use Rattle.stage.specs.Planes.{Plane, C1, C2, C3}
+use Rattle.stage.specs.Planes.{Plane, C1, C2, C3, Triple}
 
 -- the depths of planes 1, 2 and 3, and 01's one depth b for all of them
+abbrev pub Depths : Type 0
+Depths = Triple ℕ
+
 abbrev pub depths_of : (b1 b2 b3 : ℕ) → Depths
 depths_of b1 b2 b3 = record { c1 = b1; c2 = b2; c3 = b3 }
 

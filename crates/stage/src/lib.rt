@@ -1,55 +1,65 @@
-// What the code of all crates shares with the definitions of the colour stage (specs/): the planes, a run's settings, a kind of file, a
-// range, an answer, and the tests of sizes and lengths.
+// What the code of all crates shares with the definitions of the colour stage (specs/): planes and whatever there is one of for each plane, a run's
+// settings, a kind of file, a range, a refusal, and the tests of sizes and lengths.
 #![tactic(auto)]
 
-ghost use Rattle.std.specs.Prelude.{◌≡◌, cond};
-ghost use Rattle.stage.specs.Answers.{between, sized};
-ghost use Rattle.stage.specs.Planes.{triple, same_plane};
-ghost use Rattle.stage.specs.Settings.{each, depths_allowed, depths_suit, bands_suit};
-ghost use Rattle.stage.specs.Transform.{all_equal};
+mod lent;
+mod refusals;
 
-#[derive(Clone, Copy)]
+ghost use Rattle.std.specs.Prelude.{◌≡◌, cond, Ok, Err};
+ghost use Rattle.stage.specs.declared.Form.TheVariants.{Plain};
+ghost use Rattle.stage.specs.declared.Bands.TheVariants.{One};
+ghost use Rattle.stage.specs.declared.Refusal.TheVariants.{Transform};
+ghost use Rattle.stage.specs.Answers.{between, sized};
+ghost use Rattle.stage.specs.Settings.{each, plan_of, depths_allowed, depths_suit, bands_suit};
+ghost use Rattle.stage.specs.Transform.{all_equal};
+ghost use Rattle.stage.specs.Graymap.{plane_of};
+
+pub use refusals::require;
+
+#[derive(Clone, Copy, Debug, PartialEq, Eq)]
 pub enum Plane {
     C1,
     C2,
     C3,
 }
 
-pub fn same_plane(a: Plane, b: Plane) -> bool
-    ensures { result ≡ same_plane a b }
-{
-    match a {
-        Plane::C1 => match b {
-            Plane::C1 => true,
-            Plane::C2 => false,
-            Plane::C3 => false,
-        },
-        Plane::C2 => match b {
-            Plane::C1 => false,
-            Plane::C2 => true,
-            Plane::C3 => false,
-        },
-        Plane::C3 => match b {
-            Plane::C1 => false,
-            Plane::C2 => false,
-            Plane::C3 => true,
-        },
+// Planes are numbered 1 to 3.
+impl TryFrom<u32> for Plane {
+    type Error = Refusal;
+
+    ghost try_from_gives = { λ n r. r ≡ cond (between 1 3 n) (Ok (plane_of n)) (Err Transform) };
+
+    fn try_from(number: u32) -> Result<Plane, Refusal> {
+        match number {
+            1 => Ok(Plane::C1),
+            2 => Ok(Plane::C2),
+            3 => Ok(Plane::C3),
+            _ => Err(Refusal::Transform),
+        }
     }
 }
 
-// The depths of planes 1, 2 and 3: how many bits a sample has.
-#[derive(Clone, Copy)]
-pub struct Depths {
-    pub c1: u32,
-    pub c2: u32,
-    pub c3: u32,
+// One of anything for each plane.
+#[derive(Clone, Copy, Debug, PartialEq, Eq, Drop)]
+pub struct Triple<T> {
+    pub c1: T,
+    pub c2: T,
+    pub c3: T,
 }
+
+// How many bits a sample of each plane has.
+pub type Depths = Triple<u32>;
+
+// Three lent planes, to read and to change in place.
+pub type Planes<'a> = Triple<&'a [i32]>;
+
+pub type PlanesMut<'a> = Triple<&'a mut [i32]>;
 
 // The same depth for each plane.
 pub fn each(depth: u32) -> Depths
     ensures { result ≡ each depth }
 {
-    Depths {
+    Triple {
         c1: depth,
         c2: depth,
         c3: depth,
@@ -57,7 +67,7 @@ pub fn each(depth: u32) -> Depths
 }
 
 // A picture's width, height and depths, and the number of its transform. Each call tests them.
-#[derive(Clone, Copy)]
+#[derive(Clone, Copy, Debug, PartialEq, Eq)]
 pub struct Settings {
     pub width: u32,
     pub height: u32,
@@ -66,7 +76,7 @@ pub struct Settings {
 }
 
 // The form of a transform: what a step makes of a sample is kept as it is, or wrapped to the depth's bits.
-#[derive(Clone, Copy)]
+#[derive(Clone, Copy, Debug, PartialEq, Eq)]
 pub enum Form {
     Plain,
     Wrapped,
@@ -74,39 +84,92 @@ pub enum Form {
 
 // How a picture's rows take their filters: all from one set of choices, or each band of so many rows from its own. The last band may be
 // shorter.
-#[derive(Clone, Copy)]
+#[derive(Clone, Copy, Debug, PartialEq, Eq)]
 pub enum Bands {
     One,
     Of(u32),
 }
 
 // What a transform's steps run with but for the choices: the settings, how a result is kept, and where filters change.
-#[derive(Clone, Copy)]
+#[derive(Clone, Copy, Debug, PartialEq, Eq)]
 pub struct Plan {
     pub settings: Settings,
     pub form: Form,
     pub bands: Bands,
 }
 
+// The plain form, without bands.
+impl From<Settings> for Plan {
+    ghost from_gives = { λ s p. p ≡ plan_of s Plain One };
+
+    fn from(settings: Settings) -> Plan {
+        Plan {
+            settings,
+            form: Form::Plain,
+            bands: Bands::One,
+        }
+    }
+}
+
 // What a portable file of samples may be: a pixmap (P6) of any depth, or a graymap (P5) with this maxval.
-#[derive(Clone, Copy)]
+#[derive(Clone, Copy, Debug, PartialEq, Eq)]
 pub enum Kind {
     Pixmap,
     Graymap(u32),
 }
 
 // −below to above
-#[derive(Clone, Copy)]
+#[derive(Clone, Copy, Debug, PartialEq, Eq)]
 pub struct Range {
     pub below: u32,
     pub above: u32,
 }
 
-// Success, or the number of a refusal.
-#[derive(Clone, Copy)]
-pub enum Answer {
-    Done,
-    Refused(u32),
+// Width, height and depth of a pixmap.
+#[derive(Clone, Copy, Debug, PartialEq, Eq)]
+pub struct Header {
+    pub width: u32,
+    pub height: u32,
+    pub depth: u32,
+}
+
+// Width and height of a graymap.
+#[derive(Clone, Copy, Debug, PartialEq, Eq)]
+pub struct Size {
+    pub width: u32,
+    pub height: u32,
+}
+
+// The estimate, and how many samples of each plane it counts.
+#[derive(Clone, Copy, Debug, PartialEq, Eq)]
+pub struct Estimated {
+    pub estimate: u32,
+    pub samples: u32,
+}
+
+// Why a call refuses. The numbers are the papers'.
+#[derive(Clone, Copy, Debug, PartialEq, Eq)]
+pub enum Refusal {
+    // whoever made the file
+    Header = 1,
+    Size = 2,
+    Maxval = 3,
+    Raster = 4,
+    // the calling program
+    Depth = 5,
+    Transform = 6,
+    Choices = 7,
+    Plane = 8,
+    Scratch = 9,
+    Rounds = 10,
+    Wide = 13,
+    Buffer = 14,
+    Unequal = 16,
+    Band = 17,
+    // whoever made the samples
+    Sample = 11,
+    Unreached = 12,
+    Preview = 15,
 }
 
 pub fn is_between(low: u32, high: u32, n: u32) -> bool
@@ -149,15 +212,8 @@ pub fn bands_suit(bands: Bands, height: u32) -> bool
 }
 
 // Whether three lengths are n.
-pub fn all_equal(n: usize, n1: usize, n2: usize, n3: usize) -> bool
-    ensures { result ≡ all_equal n (triple n1 n2 n3) }
+pub fn all_equal(n: usize, lengths: Triple<usize>) -> bool
+    ensures { result ≡ all_equal n lengths }
 {
-    (n1 == n) & ((n2 == n) & (n3 == n))
-}
-
-// x where b holds, else y: what the later tests gave, or the number of a test that fails.
-pub fn select(b: bool, x: u32, y: u32) -> u32
-    ensures { result ≡ cond b x y }
-{
-    if b { x } else { y }
+    (lengths.c1 == n) & ((lengths.c2 == n) & (lengths.c3 == n))
 }

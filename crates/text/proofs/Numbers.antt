@@ -1,20 +1,25 @@
 -- The digits in front of a text, one by one; and numbers kept to a limit.
 use mathlib.Core.Path.{◌≡◌, refl, sym, ap, ◌∙◌}
-use mathlib.Core.Bool.{Bool, true, false, cond, not, ◌&&◌}
+use mathlib.Core.Bool.{Bool, true, false, cond, not}
 use mathlib.Core.List.{List, [], ◌∷◌}
-use Prim.Native.Nat.{ℕ, zero, suc, ◌+◌, ◌-◌, ◌*◌, ◌≤◌, ◌<◌, min}
+use Prim.Native.Nat.{ℕ, suc, ◌+◌, ◌-◌, ◌*◌, ◌≤◌, min}
 use native.Mathlib.Numerals.{add-one}
 use native.Mathlib.Omega.{arith}
-use lib.Dec.{leb, ltb, eqb, eqb-suc-zero}
-use lib.ListN.{length, take, drop, get_or, length-drop, drop_of_length-le}
-use lib.Seq.{take_all, drop-drop}
-use borrow.Author.Tests.{leb-true, lt-ltb}
+use lib.Dec.{leb, eqb, eqb-suc-zero}
+use lib.ListN.{length, take, drop, length-drop}
+use lib.Seq.{take_all, drop-drop, take-take}
+use borrow.Author.Tests.{leb-true}
+use Rattle.std.specs.Char.{is_ascii_digit}
+use Rattle.std.specs.List.{fold, take_while, prefix_len}
+use Rattle.std.proofs.Common.{◌≢◌}
+use Rattle.std.proofs.lemmas.List.{length-take}
+use Rattle.std.proofs.lemmas.List.Folds.{length-prefix_len}
+use Rattle.std.proofs.lemmas.List.Sums.{prefix_len-le-length}
 use Rattle.integers.proofs.Booleans.{both_true}
 use Rattle.stage.specs.Decimal.{is_digit, decimal, digit_count, after_digits}
 use Rattle.stage.specs.Pixmap.{first}
 use Rattle.text.specs.declared.reading.Number.{Number}
 use Rattle.text.specs.Numbers.{NumberAt}
-use Rattle.text.proofs.Parts.{at_place}
 
 pub digit_low : (b : ℕ) → is_digit b ≡ true → 48 ≤ b
 unfolding is_digit
@@ -80,71 +85,53 @@ rest_read {text} {at} n =
     ap (λ (k : ℕ). drop k text) (n.end_is ∙ ap (λ (l : List ℕ). at + digit_count l) (all_digits text at)) ∙ sym (drop-drop (digit_count (drop at text)) at text)
     ∙ after_digits_lem (drop at text)
 
+-- ---- the digits in front are those that pass the test for one
+digits_front : (l : List ℕ) → prefix_len is_ascii_digit l ≡ digit_count l
+unfolding is_digit digit_count
+digits_front [] = refl
+digits_front (b ∷ l) = ap (λ (n : ℕ). cond (is_digit b) n 0) (omega (arith, digits_front l))
+
+pub counted : (l : List ℕ) → length (take_while is_ascii_digit l) ≡ digit_count l
+counted l = length-prefix_len is_ascii_digit l ∙ digits_front l
+
+count_most : (l : List ℕ) → digit_count l ≤ length l
+count_most l = rw (← digits_front l) (prefix_len-le-length is_ascii_digit l)
+
+-- those at a place lie within the text
+pub count_within : (text : List ℕ) (at most n : ℕ) → n ≡ length (take_while is_ascii_digit (take most (drop at text))) → n ≢ 0 → at + n ≤ length text
+count_within text at most n e h =
+    let l = take most (drop at text) in
+    omega (arith, counted l, count_most l, length-take most (drop at text), length-drop at text)
+
 -- ---- what is kept to a limit on the way gives the number kept to the limit
 module _ (limit : ℕ) where
-  kept_by : (t : Bool) (m n p q : ℕ) → min m limit ≡ min n limit → min p limit ≡ min q limit → min (cond t p m) limit ≡ min (cond t q n) limit
-  kept_by true m n p q h k = k
-  kept_by false m n p q h k = h
+  abbrev extended : ℕ → ℕ → ℕ
+  extended n b = min (10 * n + (b - 48)) limit
 
-  decimal_kept : (l : List ℕ) (m n : ℕ) → min m limit ≡ min n limit → min (decimal m l) limit ≡ min (decimal n l) limit
-  unfolding decimal
-  decimal_kept [] m n h = h
-  decimal_kept (b ∷ l) m n h =
-      kept_by (is_digit b) m n (decimal (10 * m + (b - 48)) l) (decimal (10 * n + (b - 48)) l) h
-      (decimal_kept l (10 * m + (b - 48)) (10 * n + (b - 48)) (omega arith))
+  kept_by : (t : Bool) (n b : ℕ) (l : List ℕ) → is_digit b ≡ t → ((i : ℕ) → fold extended (min i limit) (take (digit_count l) l) ≡ min (decimal i l) limit)
+      → fold extended (min n limit) (take (digit_count (b ∷ l)) (b ∷ l)) ≡ min (decimal n (b ∷ l)) limit
+  kept_by true n b l e h =
+      rw (count_more b l e, add-one (digit_count l), decimal_more n b l e, ← h (10 * n + (b - 48)))
+      (ap (λ (i : ℕ). fold extended i (take (digit_count l) l)) (omega arith))
+  kept_by false n b l e h = rw (count_none (b ∷ l) e, decimal_ends n (b ∷ l) e)
 
--- `digits` digits from `at` on, before i, gave n, kept to the limit
-pub record Read (text : List ℕ) (at most limit n digits i : ℕ) : Type 0 where
-  pub kept : n ≤ limit
-  pub value : min (decimal n (take (most - digits) (drop i text))) limit ≡ min (decimal 0 (take most (drop at text))) limit
-  pub count : digits + digit_count (take (most - digits) (drop i text)) ≡ digit_count (take most (drop at text))
-  pub place : at + digits ≡ i
+  kept : (n : ℕ) (l : List ℕ) → fold extended (min n limit) (take (digit_count l) l) ≡ min (decimal n l) limit
+  unfolding decimal digit_count
+  kept n [] = refl
+  kept n (b ∷ l) = kept_by (is_digit b) n b l refl (λ i. kept i l)
 
-pub read_none : (text : List ℕ) (at most limit : ℕ) → Read text at most limit 0 0 at
-read_none text at most limit =
-    let e : most - 0 ≡ most = omega arith in
-    record { kept = omega arith; value = rw e; count = rw e (omega arith); place = omega arith }
-
-first_false : (a b : Bool) → (a && b) ≡ false → b ≡ true → a ≡ false
-first_false true b e h = sym h ∙ e
-first_false false b e h = refl
-
-module _ (text : List ℕ) (at most limit n digits i : ℕ) (p : Read text at most limit n digits i) where
-  pub digit_here : i < length text → digits < most → is_digit (get_or text i 0) ≡ true
-      → Read text at most limit (min (10 * n + (get_or text i 0 - 48)) limit) (digits + 1) (i + 1)
-  digit_here h g t =
-      let b = get_or text i 0 in
-      let l = take (most - (digits + 1)) (drop (i + 1) text) in
-      let k : most - digits ≡ suc (most - (digits + 1)) = omega arith in
-      let s : take (most - digits) (drop i text) ≡ b ∷ l = rw (k, at_place text i h) in
-      record {
-        kept = omega arith;
-        value = decimal_kept limit l (min (10 * n + (b - 48)) limit) (10 * n + (b - 48)) (omega arith) ∙ ap (λ (z : ℕ). min z limit) (sym (ap (decimal n) s ∙ decimal_more n b l t)) ∙ p.value;
-        count = omega (arith, p.count, ap digit_count s ∙ count_more b l t);
-        place = omega arith;
-      }
-
-  -- where no digit follows
-  pub number_read : is_digit (first (take (most - digits) (drop i text))) ≡ false → NumberAt text at most limit (record { value = n; digits = digits; at = i })
-  number_read h =
-      let l = take (most - digits) (drop i text) in
-      record {
-        value_is = omega (arith, p.value, p.kept, decimal_ends n l h);
-        digits_is = omega (arith, p.count, count_none l h);
-        end_is = omega (arith, p.place, p.count, count_none l h);
-      }
-
-  -- a byte that is no digit, or enough digits; or the text's end
-  pub read_ends : (is_digit (get_or text i 0) && ltb digits most) ≡ false → i < length text → NumberAt text at most limit (record { value = n; digits = digits; at = i })
-  read_ends e h = number_read (rw (at_place text i h) (by (most - digits) refl))
-    where
-      by : (m : ℕ) → most - digits ≡ m → is_digit (first (take m (get_or text i 0 ∷ drop (i + 1) text))) ≡ false
-      by zero k = no_digit
-      by (suc m) k = first_false (is_digit (get_or text i 0)) (ltb digits most) e (lt-ltb digits most (omega arith))
-
-  pub read_past : length text ≤ i → NumberAt text at most limit (record { value = n; digits = digits; at = i })
-  read_past h = number_read (rw (drop_of_length-le text h) (by (most - digits)))
-    where
-      by : (m : ℕ) → is_digit (first (take m [])) ≡ false
-      by zero = no_digit
-      by (suc m) = no_digit
+pub number_read : (text : List ℕ) (at most limit n k : ℕ) → k ≡ length (take_while is_ascii_digit (take most (drop at text))) → k ≢ 0
+    → n ≡ fold (extended limit) 0 (take (at + k - at) (drop at text)) → NumberAt text at most limit (record { value = n; digits = k; at = at + k })
+number_read text at most limit n k s h f =
+    let l = take most (drop at text) in
+    let e : k ≡ digit_count l = s ∙ counted l in
+    let few : k ≤ most = omega (arith, count_most l, length-take most (drop at text)) in
+    let part : take (at + k - at) (drop at text) ≡ take (digit_count l) l =
+    ap (λ (i : ℕ). take i (drop at text)) (omega arith) ∙ sym (take-take (digit_count l) most (drop at text) (omega arith)) in
+    let none : 0 ≡ min 0 limit = omega arith in
+    record {
+      value_is = f ∙ ap (λ (m : List ℕ). fold (extended limit) 0 m) part ∙ ap (λ (i : ℕ). fold (extended limit) i (take (digit_count l) l)) none ∙ kept limit 0 l;
+      digits_is = e;
+      end_is = omega arith;
+      some = omega arith;
+    }

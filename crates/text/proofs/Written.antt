@@ -1,10 +1,11 @@
 -- Pieces written one behind the other are one piece.
 use mathlib.Core.Path.{◌≡◌, refl, sym, ap, ◌∙◌}
-use mathlib.Core.List.{List, [], ◌∷◌, ◌++◌}
-use Prim.Native.Nat.{ℕ, suc, ◌+◌, ◌≤◌}
+use mathlib.Core.List.{List, [], ◌∷◌, ◌++◌, append_assoc}
+use Prim.Native.Nat.{ℕ, suc, ◌+◌, ◌-◌, ◌≤◌}
 use native.Mathlib.Omega.{arith}
 use lib.ListN.{length, take, drop, set, length-append}
 use lib.Seq.{sets, length-sets, sets-eq}
+use borrow.Rule.Slice.PartMut.{put_mid, post_of, Post-is}
 use Rattle.text.specs.Written.{Written}
 
 sets-append : (l p q : List ℕ) (i : ℕ) → sets (sets l i p) (i + length p) q ≡ sets l i (p ++ q)
@@ -21,12 +22,31 @@ pub then : {a b c p q : List ℕ} {i j k : ℕ} → Written a i p b j → Writte
 then {a} {b} {c} {p} {q} {i} {j} {k} v w =
     record {
       text_is = w.text_is ∙ ap (λ x. sets x j q) v.text_is ∙ ap (λ n. sets (sets a i p) n q) v.end_is ∙ sets-append a p q i;
+      long_is = w.long_is ∙ v.long_is;
       end_is = omega (arith, length-append p q, v.end_is, w.end_is);
     }
 
 -- the buffer in three parts
 pub written_parts : {a p b : List ℕ} {i j : ℕ} → Written a i p b j → j ≤ length a → b ≡ take i a ++ p ++ drop j a
 written_parts {a} {p} {b} {i} {j} w h = w.text_is ∙ sets-eq p a i (omega (arith, w.end_is)) ∙ ap (λ n. take i a ++ p ++ drop n a) (sym w.end_is)
+
+-- a piece at the front of a buffer
+pub written_front : {a l p b : List ℕ} {i j : ℕ} → Written a i p b j → a ≡ l → i ≡ 0 → length p ≤ length l → b ≡ p ++ drop (length p) l
+written_front {a} {l} {p} {b} {i} {j} w e z h =
+    let w0 = rw (e, z) at w in
+    let j_is : j ≡ length p = omega (arith, w0.end_is) in
+    written_parts w0 (omega arith) ∙ ap (λ n. p ++ drop n l) j_is
+
+-- a piece that takes the place of a part of the buffer
+pub written_part : {text part piece : List ℕ} (at : ℕ) → part ≡ piece → at + length piece ≤ length text → Written text at piece (put_mid at (at + length piece - at) text part) (at + length piece)
+written_part {text} {part} {piece} at e h =
+    let end = at + length piece in
+    let t : put_mid at (end - at) text part ≡ sets text at piece =
+    ap (λ l. take at text ++ (l ++ post_of at (end - at) text)) e
+    ∙ ap (λ l. take at text ++ (piece ++ l)) (Post-is at end text (omega arith))
+    ∙ sym (append_assoc (take at text) piece (drop end text))
+    ∙ sym (sets-eq piece text at h) in
+    record { text_is = t; long_is = ap length t ∙ length-sets text at piece; end_is = refl }
 
 -- What a loop that writes a whole piece by piece keeps: to write the rest now is to write the whole at the start.
 pub record Remains (start : List ℕ) (at : ℕ) (whole text : List ℕ) (next : ℕ) (rest : List ℕ) : Type 0 where
@@ -43,8 +63,8 @@ remains_less {start} {whole} {text} {after} {piece} {at} {next} {end} rest r w =
       end_is = omega (arith, length-append piece rest, r.end_is, w.end_is);
     }
 
-pub remains_none : {start whole text : List ℕ} {at next : ℕ} → Remains start at whole text next [] → Written start at whole text next
-remains_none r = record { text_is = r.text_is; end_is = omega (arith, r.end_is) }
-
 pub remains_long : {start whole text rest : List ℕ} {at next : ℕ} → Remains start at whole text next rest → length text ≡ length start
 remains_long {start} {whole} {text} {rest} {at} {next} r = sym (length-sets text next rest) ∙ ap length r.text_is ∙ length-sets start at whole
+
+pub remains_none : {start whole text : List ℕ} {at next : ℕ} → Remains start at whole text next [] → Written start at whole text next
+remains_none r = record { text_is = r.text_is; long_is = remains_long r; end_is = omega (arith, r.end_is) }

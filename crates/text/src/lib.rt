@@ -1,8 +1,8 @@
-// Text in lent buffers: bytes, words and decimal numbers written at a place, and decimal numbers read at a place.
+// Text in lent buffers: bytes, words and decimal numbers written one behind the other, and decimal numbers read at a place.
 #![tactic(auto)]
 
 mod reading;
 mod writing;
 
 pub use reading::{Number, read_number};
-pub use writing::{digit_count, put_byte, put_bytes, put_field, put_number};
+pub use writing::{Writer, digit_count};

@@ -1,56 +1,57 @@
 // Decimal numbers of any length, read at a place of a text. A place may lie anywhere, also behind the text's end.
-ghost use Rattle.std.specs.Prelude.{◌≡◌, ◌&&◌, ◌+◌, ◌-◌, ◌*◌, ◌≤◌, min, ltb};
-ghost use Rattle.stage.specs.Decimal.{is_digit};
-ghost use Rattle.text.specs.Numbers.{NumberAt, Extendable};
+ghost use Rattle.std.specs.Prelude.{◌≡◌, ◌+◌, ◌-◌, ◌*◌, min, length, take, take_while, drop, fold};
+ghost use Rattle.std.specs.Char.{is_ascii_digit};
+ghost use Rattle.text.specs.Numbers.{NumberRead};
 
-// A number, or the limit where it is larger; how many digits it has, 0 where no digit stands there; and the place behind them.
-#[derive(Clone, Copy)]
+// A number, or the limit where it is larger; how many digits it has, for callers that limit them; and the place behind them, which tells the caller
+// where in the text it is.
+#[derive(Clone, Copy, Debug, PartialEq, Eq)]
 pub struct Number {
     pub value: u64,
     pub digits: usize,
     pub at: usize,
 }
 
-// Whether a byte is one digit more, where at most `most` are read.
-fn is_next(b: u8, digits: usize, most: usize) -> bool
-    ensures { result ≡ (is_digit b && ltb digits most) }
+// How many digits stand at `at`, or `most` where there are more.
+fn digits_at(text: &[u8], at: usize, most: usize) -> usize
+    ensures { result ≡ length (take_while is_ascii_digit (take most (drop at text.now))) }
 {
-    (48 <= b) & (b <= 57) & (digits < most)
+    text.iter()
+        .skip(at)
+        .take(most)
+        .take_while(|b| b.is_ascii_digit())
+        .count()
 }
 
 // A number with one digit more, at most `limit`.
 fn with_digit(n: u64, b: u8, limit: u64) -> u64
-    requires { Extendable n b limit }
     ensures { result ≡ min (10 * n + (b - 48)) limit }
 {
-    let m = n * 10 + (b - 48) as u64;
-    if m < limit { m } else { limit }
+    let digit = b.saturating_sub(b'0');
+    let m = n.saturating_mul(10).saturating_add(u64::from(digit));
+    m.min(limit)
+}
+
+// The number of some digits, at most `limit`.
+fn value_of(digits: &[u8], limit: u64) -> u64
+    ensures { result ≡ fold (λ n b. min (10 * n + (b - 48)) limit) 0 digits.now }
+{
+    digits.iter().fold(0, |n, b| with_digit(n, *b, limit))
 }
 
 // The digits that stand at `at`, or the first `most` of them. With a limit of 2^32 each number of 32 bits is told from those above.
-pub fn read_number(text: &[u8], at: usize, most: usize, limit: u64) -> Number
-    requires { limit ≤ 4294967296 }
-    ensures { NumberAt text.now at most limit result }
+pub fn read_number(text: &[u8], at: usize, most: usize, limit: u64) -> Option<Number>
+    ensures { NumberRead text.now at most limit result }
 {
-    let mut n: u64 = 0;
-    let mut digits = 0;
-    let mut i = at;
-    while i < text.len() {
-        let b = text[i];
-        if !is_next(b, digits, most) {
-            return Number {
-                value: n,
-                digits: digits,
-                at: i,
-            };
-        }
-        n = with_digit(n, b, limit);
-        digits += 1;
-        i += 1;
+    let digits = digits_at(text, at, most);
+    let none = digits == 0;
+    if none {
+        return None;
     }
-    Number {
-        value: n,
-        digits: digits,
-        at: i,
-    }
+    let end = at + digits;
+    Some(Number {
+        value: value_of(&text[at..end], limit),
+        digits,
+        at: end,
+    })
 }

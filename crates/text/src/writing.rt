@@ -1,66 +1,85 @@
-// Pieces of text, each written at a place of a buffer; the answer is the place behind it.
+// Pieces of text, each written to a lent buffer behind the one before.
 ghost use Rattle.std.specs.Prelude.{◌≡◌, [], ◌∷◌, ◌+◌, ◌<◌, ◌≤◌, length};
 ghost use Rattle.stage.specs.Decimal.{numeral};
 ghost use Rattle.text.specs.Written.{Written};
 
-pub fn put_byte(text: &mut [u8], at: usize, b: u8) -> usize
-    requires { at < length text.old }
-    ensures { Written text.old at (b ∷ []) text.new result }
-{
-    text[at] = b;
-    at + 1
+// A lent buffer, and the place where the next piece goes.
+#[derive(Drop)]
+pub struct Writer<'a> {
+    pub text: &'a mut [u8],
+    pub at: usize,
 }
 
-pub fn put_bytes(text: &mut [u8], at: usize, piece: &[u8]) -> usize
-    requires { at + length piece.now ≤ length text.old }
-    ensures { Written text.old at piece.now text.new result }
-{
-    let mut next = at;
-    let mut i = 0;
-    while i < piece.len() {
-        next = put_byte(text, next, piece[i]);
-        i += 1;
+impl<'a> Writer<'a> {
+    pub fn new(text: &'a mut [u8]) -> Writer<'a>
+        ensures same { result.text.ghost_name ≡ text.entry.ghost_name }
+        ensures start { (result.text.now ≡ text.old) × (result.at ≡ 0) }
+    {
+        Writer { text, at: 0 }
     }
-    next
+
+    pub fn put_byte(&mut self, b: u8)
+        requires { self.old.at < length self.old.text.now }
+        ensures same { self.new.text.ghost_name ≡ self.old.text.ghost_name }
+        ensures written { Written self.old.text.now self.old.at (b ∷ []) self.new.text.now self.new.at }
+    {
+        self.text[self.at] = b;
+        self.at += 1;
+    }
+
+    #[tactic(auto, using(crate::proofs::Written::written_part))]
+    pub fn put_bytes(&mut self, piece: &[u8])
+        requires { self.old.at + length piece.now ≤ length self.old.text.now }
+        ensures same { self.new.text.ghost_name ≡ self.old.text.ghost_name }
+        ensures written { Written self.old.text.now self.old.at piece.now self.new.text.now self.new.at }
+    {
+        let end = self.at + piece.len();
+        self.text[self.at..end].copy_from_slice(piece);
+        self.at = end;
+    }
+
+    // A number in decimal digits, without leading zeros.
+    pub fn put_number(&mut self, n: u32)
+        requires { self.old.at + length (numeral n) ≤ length self.old.text.now }
+        ensures same { self.new.text.ghost_name ≡ self.old.text.ghost_name }
+        ensures written { Written self.old.text.now self.old.at (numeral n) self.new.text.now self.new.at }
+    {
+        let one = n < 10;
+        if one {
+            self.put_byte(digit(n));
+        } else {
+            self.put_number(n / 10);
+            self.put_byte(digit(n % 10));
+        }
+    }
+
+    // A number behind a separator.
+    pub fn put_field(&mut self, separator: u8, n: u32)
+        requires { self.old.at + length (separator ∷ numeral n) ≤ length self.old.text.now }
+        ensures same { self.new.text.ghost_name ≡ self.old.text.ghost_name }
+        ensures written { Written self.old.text.now self.old.at (separator ∷ numeral n) self.new.text.now self.new.at }
+    {
+        self.put_byte(separator);
+        self.put_number(n);
+    }
 }
 
 fn digit(n: u32) -> u8
     requires { n < 10 }
     ensures { result ≡ 48 + n }
 {
-    48 + n as u8
+    b'0' + n as u8
 }
 
-// How many decimal digits a number has, without leading zeros.
+// How many decimal digits a number has, without leading zeros. The library has no logarithm to base 10, so a loop divides.
 pub fn digit_count(n: u32) -> usize
     ensures { (result ≡ length (numeral n)) × (result ≤ 10) }
 {
     let mut count = 1;
     let mut rest = n;
     while 10 <= rest {
-        rest = rest / 10;
+        rest /= 10;
         count += 1;
     }
     count
-}
-
-// A number in decimal digits, without leading zeros.
-pub fn put_number(text: &mut [u8], at: usize, n: u32) -> usize
-    requires { at + length (numeral n) ≤ length text.old }
-    ensures { Written text.old at (numeral n) text.new result }
-{
-    if n < 10 {
-        return put_byte(text, at, digit(n));
-    }
-    let next = put_number(text, at, n / 10);
-    put_byte(text, next, digit(n % 10))
-}
-
-// A number behind a separator.
-pub fn put_field(text: &mut [u8], at: usize, separator: u8, n: u32) -> usize
-    requires { at + length (separator ∷ numeral n) ≤ length text.old }
-    ensures { Written text.old at (separator ∷ numeral n) text.new result }
-{
-    let next = put_byte(text, at, separator);
-    put_number(text, next, n)
 }

@@ -1,33 +1,35 @@
 -- The calls past their tests: what the steps ask holds, and what they leave is the definitions' result.
-use mathlib.Core.Path.{◌≡◌, sym, ap, ◌∙◌, subst}
-use mathlib.Core.Bool.{Bool, true, false}
-use mathlib.Core.List.{List}
+use mathlib.Core.Path.{◌≡◌, refl, sym, ap, ◌∙◌, subst}
+use mathlib.Core.Bool.{Bool, true, false, cond}
+use mathlib.Core.List.{List, [], ◌∷◌, ◌++◌}
 use Prim.Native.Nat.{ℕ}
 use native.Mathlib.Omega.{arith}
-use lib.Dec.{T, ltb}
+use lib.Dec.{T}
 use lib.ListN.{length}
 use Rattle.integers.specs.Slices.{slice}
-use Rattle.integers.proofs.Booleans.{true_holds}
+use Rattle.integers.proofs.Booleans.{true_holds, holds_true}
 use Rattle.integers.proofs.Slices.{slice_back}
-use Rattle.stage.specs.declared.Answer.{Answer}
-use Rattle.stage.specs.declared.Answer.TheVariants.{Refused}
+use Rattle.stage.specs.declared.Triple.{Triple}
 use Rattle.stage.specs.declared.Settings.{Settings}
 use Rattle.stage.specs.declared.Form.{Form}
 use Rattle.stage.specs.declared.Form.TheVariants.{Plain, Wrapped}
 use Rattle.stage.specs.declared.Bands.{Bands}
 use Rattle.stage.specs.declared.Plane.TheVariants.{C1}
-use Rattle.stage.specs.Answers.{Test, refusal, outcome_of}
+use Rattle.std.specs.Prelude.{Ok, Err}
+use Rattle.stage.specs.declared.Refusal.{Refusal}
+use Rattle.stage.specs.declared.Refusal.TheVariants.{Unreached}
+use Rattle.stage.specs.Answers.{Test, ◌else◌, refusal, number_of, outcome, outcome_of}
 use Rattle.stage.specs.Planes.{Planes}
 use Rattle.stage.specs.Steps.{Step, steps, run, undo}
 use Rattle.stage.specs.Ranges.{sample_ranges, finished_ranges, within_ranges, InRanges}
-use Rattle.stage.specs.Transform.{choices_fit, lengths, settings_tests, HasSize, setup, transformed, untransformed, is_picture, forward, inverse}
-use Rattle.stage.proofs.Answers.{Holds, Decides, decides}
+use Rattle.stage.specs.Transform.{choices_fit, lengths, settings_tests, HasSize, setup, transformed, untransformed, is_picture, inverse}
+use Rattle.stage.proofs.Answers.{Holds, holds_append, refusal_holds, refusal_first, refusal_past, number_positive, err_outcome, ok_outcome}
 use Rattle.stage.proofs.Validity.{ValidSettings, settings_iff, has_size, fit_iff}
 use Rattle.stage.proofs.StepRanges.{ranges_grow, in_inside}
 use Rattle.stage.proofs.Forms.{steps_cancel}
 use Rattle.stage.proofs.Demand3.{within_ranges_iff, demand3}
 use Rattle.lifting.specs.Steps.{StepsFit, RunReady, UndoReady}
-use Rattle.transform.specs.Calls.{PictureGives, ForwardGives, InverseGives}
+use Rattle.transform.specs.Calls.{picture_tests}
 use Rattle.lifting.proofs.Readiness.{picture_first, ready_run, ready_inverse, ready_again}
 
 module _ (κ : Form) (β : Bands) (s : Settings) (φ : List ℕ) (p : Planes) where
@@ -35,11 +37,22 @@ module _ (κ : Form) (β : Bands) (s : Settings) (φ : List ℕ) (p : Planes) wh
   abbrev pub tests : List Test
   tests = settings_tests κ β s (choices_fit β s φ) (lengths p)
 
-  -- they gave n; then the last test, with its number m, decides
-  pub decided : (n : ℕ) {fit : Bool} → fit ≡ choices_fit β s φ → n ≡ refusal (settings_tests κ β s fit (lengths p)) → (last : Bool) (m : ℕ) → T (ltb 0 m) → (result : Planes)
-      → Decides tests last m (tt {0}) result p n
-  decided n f e last m k result =
-      decides tests last m (tt {0}) result p (tt, (tt, (tt, (tt, (tt, (tt, (tt, (k, tt)))))))) n (e ∙ ap (λ (x : Bool). refusal (settings_tests κ β s x (lengths p))) f)
+  -- as the code makes them, of numbers
+  pub made : {fit : Bool} {n : Triple ℕ} (r : ℕ) → r ≡ refusal (settings_tests κ β s fit n) → fit ≡ choices_fit β s φ → n ≡ lengths p → r ≡ refusal tests
+  made r e f k = rw (f, k) at e
+
+  pub held : 0 ≡ refusal tests → Holds tests
+  held e = refusal_holds tests (tt, (tt, (tt, (tt, (tt, (tt, (tt, tt))))))) (sym e)
+
+  -- all tests of a call that takes a picture hold
+  pub past : 0 ≡ refusal (picture_tests κ β s φ p) → Holds tests × (is_picture s p ≡ true)
+  past e =
+      let h = (holds_append tests ((is_picture s p else 11) ∷ [])).0 (refusal_holds (picture_tests κ β s φ p) (tt, (tt, (tt, (tt, (tt, (tt, (tt, (tt, tt)))))))) (sym e)) in
+      (h.0, holds_true (is_picture s p) h.1.0)
+
+  -- of planes that are lent on to be read
+  pub moved : {u : Planes} (r : ℕ) → u ≡ p → r ≡ refusal (picture_tests κ β s φ u) → r ≡ refusal (picture_tests κ β s φ p)
+  moved r k e = e ∙ ap (λ (x : Planes). refusal (picture_tests κ β s φ x)) k
 
   -- all steps, by their number
   module _ (n : ℕ) (all : n ≡ length (steps s.transform)) where
@@ -51,19 +64,15 @@ module _ (κ : Form) (β : Bands) (s : Settings) (φ : List ℕ) (p : Planes) wh
     unfolding untransformed
     undo_all x = ap (λ (l : List Step). undo (setup κ β s φ) l x) (slice_back (steps s.transform) 0 n all)
 
--- a picture's planes with all steps run, or in the wrapped forms undone, are what the calls leave
-module _ (β : Bands) (s : Settings) (φ : List ℕ) (p : Planes) (r : Answer) {q : Planes} where
-  pub picture_forward : (κ : Form) → PictureGives κ β false s φ p r q → ForwardGives κ β s φ p r q
-  unfolding forward
-  picture_forward κ e = e.is
-
-  wrapped_inverse : PictureGives Wrapped β true s φ p r q → InverseGives Wrapped β s φ p r q
-  unfolding inverse
-  wrapped_inverse e = e.is
-
-  pub picture_inverse : {κ : Form} → κ ≡ Wrapped → PictureGives κ β true s φ p r q → InverseGives κ β s φ p r q
-  picture_inverse k e =
-      subst (λ (κ : Form). InverseGives κ β s φ p r q) (sym k) (wrapped_inverse (subst (λ (κ : Form). PictureGives κ β true s φ p r q) k e))
+-- the wrapped inverse makes the tests of a call that takes a picture
+pub inverse_wrapped : (κ : Form) (β : Bands) (s : Settings) (φ : List ℕ) (p : Planes) → κ ≡ Wrapped
+    → outcome (picture_tests κ β s φ p) (tt {0}) (untransformed κ β s φ p) p ≡ inverse κ β s φ p
+unfolding inverse
+inverse_wrapped κ β s φ p k =
+    subst (λ (x : Form). outcome (picture_tests x β s φ p) (tt {0}) (untransformed x β s φ p) p ≡ inverse x β s φ p) (sym k) same
+  where
+    same : outcome (picture_tests Wrapped β s φ p) (tt {0}) (untransformed Wrapped β s φ p) p ≡ inverse Wrapped β s φ p
+    same = refl
 
 -- past the tests of the settings
 module _ (κ : Form) (β : Bands) (s : Settings) (φ : List ℕ) (p : Planes) (h : Holds (tests κ β s φ p)) where
@@ -90,6 +99,28 @@ module _ (κ : Form) (β : Bands) (s : Settings) (φ : List ℕ) (p : Planes) (h
         (in_inside (sample_ranges s) (finished_ranges s) (ranges_grow (steps s.transform) (sample_ranges s)) p samples)
 
 -- ---- the plain inverse
+-- its last test, of whether some picture goes to the planes
+module _ (β : Bands) (s : Settings) (φ : List ℕ) (p : Planes) where
+  abbrev last : Test
+  last = is_picture s (untransformed Plain β s φ p) else 12
+
+  pub inverse_refused : (e : Refusal) → number_of e ≡ refusal (tests Plain β s φ p) → outcome_of (Err e) p ≡ inverse Plain β s φ p
+  unfolding inverse
+  inverse_refused e k =
+      err_outcome (tests Plain β s φ p ++ last ∷ []) tt (untransformed Plain β s φ p) p e (refusal_first (tests Plain β s φ p) (last ∷ []) (number_of e) k (number_positive e))
+
+  module _ (h : Holds (tests Plain β s φ p)) where
+    last_is : {b : Bool} → is_picture s (untransformed Plain β s φ p) ≡ b → refusal (tests Plain β s φ p ++ last ∷ []) ≡ cond b 0 12
+    last_is e = refusal_past (tests Plain β s φ p) (last ∷ []) h ∙ ap (λ (b : Bool). cond b 0 12) e
+
+    pub inverse_last : is_picture s (untransformed Plain β s φ p) ≡ false → outcome_of (Err Unreached) p ≡ inverse Plain β s φ p
+    unfolding inverse
+    inverse_last e = err_outcome (tests Plain β s φ p ++ last ∷ []) tt (untransformed Plain β s φ p) p Unreached (sym (last_is e))
+
+    pub inverse_done : is_picture s (untransformed Plain β s φ p) ≡ true → outcome_of (Ok tt) (untransformed Plain β s φ p) ≡ inverse Plain β s φ p
+    unfolding inverse
+    inverse_done e = ok_outcome (tests Plain β s φ p ++ last ∷ []) tt (untransformed Plain β s φ p) p (sym (last_is e))
+
 module _ (β : Bands) (s : Settings) (φ : List ℕ) (p : Planes) (n : ℕ) (all : n ≡ length (steps s.transform)) where
   -- the last test, made of planes u that the steps, undone, leave
   pub undone_test : {u : Planes} {ok found : Bool} → u ≡ undo (setup Plain β s φ) (slice (steps s.transform) 0 n) p → ok ≡ is_picture s u → ok ≡ found
@@ -101,7 +132,7 @@ module _ (β : Bands) (s : Settings) (φ : List ℕ) (p : Planes) (n : ℕ) (all
   restored {u} e g = g ∙ run_all Plain β s φ p n all u ∙ ap (transformed Plain β s φ) (e ∙ undo_all Plain β s φ p n all p) ∙ (steps_cancel β s φ p).1
 
 module _ (β : Bands) (s : Settings) (φ : List ℕ) (p : Planes) (h : Holds (tests Plain β s φ p)) where
-  pub inverse_outside : within_ranges (finished_ranges s) p ≡ false → outcome_of (Refused 12) p ≡ inverse Plain β s φ p
+  pub inverse_outside : within_ranges (finished_ranges s) p ≡ false → outcome_of (Err Unreached) p ≡ inverse Plain β s φ p
   inverse_outside e =
       sym ((demand3 Plain β s φ ((fit_iff Plain β s φ p).0 h).0 p (size Plain β s φ p h)).outside (λ i. subst T e ((within_ranges_iff (finished_ranges s) p).1 i)))
 

@@ -6,18 +6,19 @@ use Prim.Native.Nat.{ℕ, zero, suc, ◌*◌, ◌/◌, ◌%◌, ◌≤◌, ◌<�
 use native.Mathlib.Nat.{mul_comm, mod-lt, div-add-mod, div-lt_iff_lt-mul}
 use native.Mathlib.Omega.{arith}
 use Rattle.integers.proofs.Booleans.{holds_true}
-use Rattle.stage.specs.declared.Answer.{Answer}
-use Rattle.stage.specs.declared.Answer.TheVariants.{Done, Refused}
+use Rattle.std.specs.Prelude.{Ok, Err}
 use Rattle.stage.specs.declared.Settings.{Settings}
 use Rattle.stage.specs.declared.Form.{Form}
 use Rattle.stage.specs.declared.Bands.{Bands}
 use Rattle.stage.specs.declared.Plane.TheVariants.{C1, C2, C3}
-use Rattle.stage.specs.Answers.{Reply, ◌else◌, answer, Outcome}
-use Rattle.stage.specs.Planes.{Triple, Planes, triple}
+use Rattle.stage.specs.declared.Refusal.{Refusal}
+use Rattle.stage.specs.Answers.{Reply, ◌else◌, answer, Outcome, number_of}
+use Rattle.stage.specs.declared.Triple.{Triple}
+use Rattle.stage.specs.Planes.{Planes, triple}
 use Rattle.stage.specs.Ranges.{sample_ranges}
 use Rattle.stage.specs.Steps.{Setup, steps}
 use Rattle.stage.specs.Transform.{choices_fit, lengths, settings_tests, setup, transformed, untransformed, HasSize, Picture, is_picture, reachable, unreachable, forward, inverse}
-use Rattle.stage.proofs.Answers.{refused_lent}
+use Rattle.stage.proofs.Answers.{refused_lent, reply_is}
 use Rattle.stage.proofs.Setups.{run_same, undo_same}
 use Rattle.stage.proofs.Forms.{same_size}
 use Rattle.stage.proofs.Demand3.{within_ranges_iff, undone, forward_iff, inverse_iff}
@@ -25,8 +26,8 @@ use Rattle.locality.specs.Reach.{Way, there, back, along, distance}
 use Rattle.locality.specs.Parts.{pixel_index, SamePixel, Corner, cut_setup, AgreeNear}
 use Rattle.locality.proofs.Spots.{agree_away}
 use Rattle.locality.proofs.Distances.{transform_local, transform_cut_out}
+use Rattle.transform.specs.Calls.{Answer}
 use Rattle.transform.specs.LocalCalls.{CallGives, cut_settings, SameFilters, CallsLocal, PicturesAnsweredAlike, CallsCutOut}
-use Rattle.transform.proofs.Theorems.{reply_is}
 
 -- ---- what a call has done
 -- done: the planes had the picture's size, and all steps have been run, or undone
@@ -34,7 +35,7 @@ module _ (κ : Form) (β : Bands) (s : Settings) (φ : List ℕ) (p q : Planes) 
   abbrev Went : Way → Type 0
   Went way = HasSize s p × (q ≡ along way (setup κ β s φ) (steps s.transform) p)
 
-  went : (way : Way) → CallGives way κ β s φ p Done q → Went way
+  went : (way : Way) → CallGives way κ β s φ p (Ok tt) q → Went way
   unfolding transformed untransformed
   went there e = let g = ((forward_iff κ β s φ p q).0 (sym e)).1 in (g.picture.size, sym g.goes)
   went back e =
@@ -43,22 +44,22 @@ module _ (κ : Form) (β : Bands) (s : Settings) (φ : List ℕ) (p q : Planes) 
       ((λ c. same_size κ β s φ q p g.goes c ∙ g.picture.size c), sym (undone κ β s φ q p i.0.depths g))
 
 -- refused: the planes are as lent
-lent : (way : Way) (κ : Form) (β : Bands) (s : Settings) (φ : List ℕ) (p q : Planes) (n : ℕ) → CallGives way κ β s φ p (Refused n) q → q ≡ p
+lent : (way : Way) (κ : Form) (β : Bands) (s : Settings) (φ : List ℕ) (p q : Planes) (n : Refusal) → CallGives way κ β s φ p (Err n) q → q ≡ p
 unfolding forward inverse
 lent there κ β s φ p q n e =
-    refused_lent tt (transformed κ β s φ p) p (settings_tests κ β s (choices_fit β s φ) (lengths p) ++ (is_picture s p else 11) ∷ []) n q (sym e)
+    refused_lent tt (transformed κ β s φ p) p (settings_tests κ β s (choices_fit β s φ) (lengths p) ++ (is_picture s p else 11) ∷ []) (number_of n) q (sym e)
 lent back κ β s φ p q n e =
-    refused_lent tt (untransformed κ β s φ p) p (settings_tests κ β s (choices_fit β s φ) (lengths p) ++ (reachable κ β s φ p else unreachable κ) ∷ []) n q (sym e)
+    refused_lent tt (untransformed κ β s φ p) p (settings_tests κ β s (choices_fit β s φ) (lengths p) ++ (reachable κ β s φ p else unreachable κ) ∷ []) (number_of n) q (sym e)
 
 -- ---- near a spot
 module _ (way : Way) (κ : Form) (β : Bands) (s : Settings) (φ : List ℕ) (p p' q q' : Planes) where
   near : (r : Answer) → CallGives way κ β s φ p r q → CallGives way κ β s φ p' r q' → (x y : ℕ) → x < s.width → y < s.height
       → AgreeNear s.width s.height (distance way s.transform) x y p p' → SamePixel q q' (pixel_index s.width x y) (pixel_index s.width x y)
-  near Done f g x y i j agree c =
+  near (Ok tt) f g x y i j agree c =
       let m = went κ β s φ p q way f in
       let n = went κ β s φ p' q' way g in
       rw (m.1, n.1) (transform_local way s.transform (setup κ β s φ) p p' m.0 n.0 x y i j agree c)
-  near (Refused n) f g x y i j agree c =
+  near (Err n) f g x y i j agree c =
       rw (lent way κ β s φ p q n f, lent way κ β s φ p' q' n g) (agree x y i j (record { columns = omega arith; rows = omega arith }) c)
 
 pub calls_local : CallsLocal

@@ -4,39 +4,33 @@ use mathlib.Core.Logic.{◌↔◌}
 use mathlib.Core.List.{List}
 use Prim.Native.Nat.{ℕ}
 use native.Mathlib.Omega.{arith}
-use Rattle.stage.specs.declared.Answer.{Answer}
-use Rattle.stage.specs.declared.Answer.TheVariants.{Done, Refused}
+use Rattle.std.specs.Prelude.{Ok, Err}
 use Rattle.stage.specs.declared.Settings.{Settings}
 use Rattle.stage.specs.declared.Form.{Form}
-use Rattle.stage.specs.declared.Form.TheVariants.{Wrapped}
+use Rattle.stage.specs.declared.Form.TheVariants.{Plain, Wrapped}
 use Rattle.stage.specs.declared.Bands.{Bands}
-use Rattle.stage.specs.Answers.{done, refused, Outcome, reply_of, outcome_of}
+use Rattle.stage.specs.declared.Refusal.{Refusal}
+use Rattle.stage.specs.declared.Refusal.TheVariants.{Sample}
+use Rattle.stage.specs.Answers.{refused, Outcome, number_of, reply_of, outcome_of}
 use Rattle.stage.specs.Planes.{Planes}
 use Rattle.stage.specs.Ranges.{sample_ranges, InRanges}
-use Rattle.stage.specs.Transform.{transformed, untransformed, inverse}
+use Rattle.stage.specs.Transform.{transformed, untransformed, inverse, unreachable}
 use Rattle.stage.specs.Demand3.{GoesTo, accepted, Demand3}
 use Rattle.stage.proofs.Forms.{goes_within}
 use Rattle.stage.proofs.Demand3.{within_ranges_iff, leads, forward_iff, inverse_iff, demand3, calls_inverse}
 use Rattle.stage.proofs.WrappedForms.{wrapped_refuses_outside}
 use Rattle.stage.proofs.NullSteps.{nulls_leave_pictures}
 use Rattle.stage.proofs.BandedForms.{bands_as_high}
-use Rattle.transform.specs.Calls.{ForwardThenInverse, InverseThenForward, CallsDemand3, CallsMeetDemand3, CallsLeaveNulls, BandsAsHighAsPicture, NeverWidens, CallsNeverWiden}
-
-pub done_is : (r : Answer) → reply_of r ≡ done tt → r ≡ Done
-done_is Done e = refl
-done_is (Refused n) e = let z : ◌≡◌ {A = ℕ} 0 1 = cc in absurd (omega arith)
-
-pub refused_is : (r : Answer) (n : ℕ) → reply_of r ≡ refused n → r ≡ Refused n
-refused_is Done n e = let z : ◌≡◌ {A = ℕ} 0 1 = cc in absurd (omega arith)
-refused_is (Refused m) n e = cc
+use Rattle.stage.proofs.Answers.{reply_ok, reply_err, reply_is}
+use Rattle.transform.specs.Calls.{Answer, unreached, ForwardThenInverse, InverseThenForward, CallsDemand3, CallsMeetDemand3, CallsLeaveNulls, BandsAsHighAsPicture, NeverWidens, CallsNeverWiden}
 
 -- the parts of an outcome
 module _ (r : Answer) (u : Planes) where
-  accepted_is : {p : Planes} → outcome_of r u ≡ accepted p → (r ≡ Done) × (u ≡ p)
-  accepted_is e = (done_is r (ap (λ (o : Outcome (Unit {0}) Planes). o.reply) e), ap (λ (o : Outcome (Unit {0}) Planes). o.memory) e)
+  accepted_is : {p : Planes} → outcome_of r u ≡ accepted p → (r ≡ Ok tt) × (u ≡ p)
+  accepted_is e = (reply_ok r tt (ap (λ (o : Outcome (Unit {0}) Planes). o.reply) e), ap (λ (o : Outcome (Unit {0}) Planes). o.memory) e)
 
-  refusal_is : {n : ℕ} {p : Planes} → outcome_of r u ≡ record { reply = refused n; memory = p } → (r ≡ Refused n) × (u ≡ p)
-  refusal_is {n} e = (refused_is r n (ap (λ (o : Outcome (Unit {0}) Planes). o.reply) e), ap (λ (o : Outcome (Unit {0}) Planes). o.memory) e)
+  refusal_is : {f : Refusal} {p : Planes} → outcome_of r u ≡ record { reply = refused (number_of f); memory = p } → (r ≡ Err f) × (u ≡ p)
+  refusal_is {f} e = (reply_err r f (ap (λ (o : Outcome (Unit {0}) Planes). o.reply) e), ap (λ (o : Outcome (Unit {0}) Planes). o.memory) e)
 
 pub forward_then_inverse : ForwardThenInverse
 forward_then_inverse κ β s φ p q u r f i = accepted_is r u (i ∙ (calls_inverse κ β s φ p q).0 (sym f))
@@ -44,14 +38,18 @@ forward_then_inverse κ β s φ p q u r f i = accepted_is r u (i ∙ (calls_inve
 pub inverse_then_forward : InverseThenForward
 inverse_then_forward κ β s φ q p u r i f = accepted_is r u (f ∙ (calls_inverse κ β s φ p q).1 (sym i))
 
+unreached_is : (κ : Form) → unreachable κ ≡ number_of (unreached κ)
+unreached_is Plain = refl
+unreached_is Wrapped = refl
+
 module _ (κ : Form) (β : Bands) (s : Settings) (φ : List ℕ) (q : Planes) (d : Demand3 κ β s φ q) (r : Answer) (u : Planes) (e : outcome_of r u ≡ inverse κ β s φ q) where
-  goes : r ≡ Done → (p : Planes) × GoesTo κ β s φ p q
+  goes : r ≡ Ok tt → (p : Planes) × GoesTo κ β s φ p q
   goes i = d.accepts.0 (sym (ap (λ (o : Outcome (Unit {0}) Planes). o.reply) e) ∙ ap reply_of i)
 
-  leaves : (p : Planes) → GoesTo κ β s φ p q → (r ≡ Done) × (u ≡ p)
+  leaves : (p : Planes) → GoesTo κ β s φ p q → (r ≡ Ok tt) × (u ≡ p)
   leaves p g = accepted_is r u (e ∙ d.leaves p g)
 
-  picture : r ≡ Done → GoesTo κ β s φ u q
+  picture : r ≡ Ok tt → GoesTo κ β s φ u q
   picture i = let g = goes i in subst (λ (p : Planes). GoesTo κ β s φ p q) (sym (leaves g.0 g.1).1) g.1
 
   meets : CallsDemand3 κ β s φ q r u
@@ -60,7 +58,7 @@ module _ (κ : Form) (β : Bands) (s : Settings) (φ : List ℕ) (q : Planes) (d
     picture = picture;
     only = λ i p g. sym (leaves p g).1;
     again = λ i a v f. accepted_is a v (f ∙ d.again u (picture i));
-    refuses = λ f. refusal_is r u (e ∙ d.refuses (λ p g. f (leaves p g).0));
+    refuses = λ f. refusal_is r u (e ∙ d.refuses (λ p g. f (leaves p g).0) ∙ ap (λ (n : ℕ). record { reply = refused n; memory = q }) (unreached_is κ));
     within = λ i. d.within u (picture i);
   }
 
@@ -71,10 +69,6 @@ pub calls_leave_nulls : CallsLeaveNulls
 calls_leave_nulls κ β s p a d b h r q = let n = nulls_leave_pictures κ β s p a d b h in (λ f. accepted_is r q (f ∙ n.there), λ i. accepted_is r q (i ∙ n.back))
 
 -- two calls that have one outcome
-pub reply_is : (r r' : Answer) → reply_of r ≡ reply_of r' → r ≡ r'
-reply_is r Done e = done_is r e
-reply_is r (Refused n) e = refused_is r n e
-
 same_outcome : {r r' : Answer} {q q' : Planes} → outcome_of r q ≡ outcome_of r' q' → (r ≡ r') × (q ≡ q')
 same_outcome {r} {r'} e = (reply_is r r' (ap (λ (o : Outcome (Unit {0}) Planes). o.reply) e), ap (λ (o : Outcome (Unit {0}) Planes). o.memory) e)
 
@@ -87,13 +81,13 @@ bands_as_high_as_picture κ s φ p r r' q q' =
 -- a call o, lent p, that refuses p with 11 exactly where it is outside 0 to M, and otherwise leaves u, within 0 to M
 module _ (s : Settings) {p u : Planes} {o : Outcome (Unit {0}) Planes} (refuses : (o ≡ record { reply = refused 11; memory = p }) ↔ (InRanges (sample_ranges s) p → ⊥))
     (accepts : InRanges (sample_ranges s) p → (o ≡ accepted u) × InRanges (sample_ranges s) u) (r : Answer) (q : Planes) (e : outcome_of r q ≡ o) where
-  outside : r ≡ Refused 11 → InRanges (sample_ranges s) p → ⊥
+  outside : r ≡ Err Sample → InRanges (sample_ranges s) p → ⊥
   outside i h = let d = (accepted_is r q (e ∙ (accepts h).0)).0 in let z : ◌≡◌ {A = ℕ} 0 1 = cc in omega arith
 
   never_widens : NeverWidens s p r q
   never_widens = record {
-    refuses = (outside, λ f. (refusal_is r q (e ∙ refuses.1 f)).0);
-    lent = λ i. (refusal_is r q (e ∙ refuses.1 (outside i))).1;
+    refuses = (outside, λ f. (refusal_is r q {f = Sample} (e ∙ refuses.1 f)).0);
+    lent = λ i. (refusal_is r q {f = Sample} (e ∙ refuses.1 (outside i))).1;
     done = λ h. let d = accepted_is r q (e ∙ (accepts h).0) in (d.0, subst (InRanges (sample_ranges s)) (sym d.1) (accepts h).1);
   }
 

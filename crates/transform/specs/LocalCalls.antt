@@ -1,7 +1,5 @@
 -- 02, request 10, of the calls: forward and inverse of both forms, in bands or not. x and y are a column and a row, a is where a part begins, u and v are its width and height.
-use Rattle.std.specs.Prelude.{◌≡◌, List, ℕ, ◌+◌, ◌<◌}
-use Rattle.stage.specs.declared.Answer.{Answer}
-use Rattle.stage.specs.declared.Answer.TheVariants.{Done}
+use Rattle.std.specs.Prelude.{◌≡◌, Ok, List, ℕ, ◌+◌, ◌<◌}
 use Rattle.stage.specs.declared.Settings.{Settings}
 use Rattle.stage.specs.declared.Form.{Form}
 use Rattle.stage.specs.declared.Bands.{Bands}
@@ -10,7 +8,7 @@ use Rattle.stage.specs.Planes.{Planes}
 use Rattle.stage.specs.Transform.{filter_at, setup, Picture}
 use Rattle.locality.specs.Reach.{Way, there, back, distance}
 use Rattle.locality.specs.Parts.{pixel_index, SamePixel, Corner, index, Fits, SpotMargin, cut_out, Near, AgreeNear, AgreeElsewhere}
-use Rattle.transform.specs.Calls.{ForwardGives, InverseGives}
+use Rattle.transform.specs.Calls.{Answer, ForwardGives, InverseGives}
 
 -- the call that goes this way, lent p, answers r and leaves q
 abbrev pub CallGives : Way → Form → Bands → Settings → List ℕ → (p : Planes) (r : Answer) (q : Planes) → Type 0
@@ -53,5 +51,5 @@ abbrev pub CallsCutOut : Type 0
 CallsCutOut =
     (way : Way) (κ : Form) (β β' : Bands) (s : Settings) (φ φ' : List ℕ) (a : Corner) (u v : ℕ) → Fits u v (setup κ β s φ) a
     → SameFilters β β' s φ φ' a u v → (p q q' : Planes)
-    → CallGives way κ β s φ p Done q → CallGives way κ β' (cut_settings s u v) φ' (cut_out (setup κ β s φ) a u v p) Done q'
+    → CallGives way κ β s φ p (Ok tt) q → CallGives way κ β' (cut_settings s u v) φ' (cut_out (setup κ β s φ) a u v p) (Ok tt) q'
     → (x y : ℕ) → SpotMargin u v (setup κ β s φ) a (distance way s.transform) x y → SamePixel q' q (pixel_index u x y) (index (setup κ β s φ) a x y)

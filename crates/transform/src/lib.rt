@@ -2,98 +2,88 @@
 // one band.
 #![tactic(auto)]
 
-ghost use Rattle.stage.specs.Planes.{triple};
-ghost use Rattle.stage.specs.declared.Form.TheVariants.{Plain};
-ghost use Rattle.transform.specs.Calls.{PictureGives, ForwardGives, InverseGives};
+ghost use Rattle.std.specs.Prelude.{◌≡◌};
+ghost use Rattle.stage.specs.Answers.{refusal, number, reply_of};
+ghost use Rattle.stage.specs.Planes.{samples, samples_mut, SameReferences};
+ghost use Rattle.stage.specs.declared.Form.TheVariants.{Plain, Wrapped};
+ghost use Rattle.transform.specs.Calls.{picture_tests, ForwardGives, InverseGives};
 
 use lifting::passes::step_count;
 use lifting::steps::{run_steps, undo_steps};
 use ranges::{in_finished_ranges, is_picture};
-use settings::{choices_fit, refusal};
-use stage::{Answer, Bands, Form, Plan, Settings};
+use settings::{check, choices_fit};
+use stage::{Form, Plan, Planes, PlanesMut, Refusal, require};
 
 pub mod settings;
 
-// A picture's planes with all steps run, or undone. Refused: 2, 5, 16, 6, 17, 7, 8 for settings, 11 for planes that hold no picture.
-fn lift_picture(
-    plan: Plan,
-    back: bool,
-    choices: &[u8],
-    c1: &mut [i32],
-    c2: &mut [i32],
-    c3: &mut [i32],
-) -> Answer
-    ensures { PictureGives plan.form plan.bands back plan.settings choices.now (triple c1.old c2.old c3.old) result (triple c1.new c2.new c3.new) }
+// The tests of a call that takes a picture: 2, 5, 16, 6, 17, 7, 8 of the settings, 11 of planes that hold none.
+fn check_picture(plan: Plan, choices: &[u8], planes: Planes) -> Result<(), Refusal>
+    ensures { number (reply_of result) ≡ refusal (picture_tests plan.form plan.bands plan.settings choices.now (samples planes.entry)) }
 {
     let settings = plan.settings;
-    let bands = plan.bands;
-    let fit = choices_fit(settings, bands, choices);
-    let n = refusal(plan, fit, c1.len(), c2.len(), c3.len());
-    if n != 0 {
-        return Answer::Refused(n);
-    }
-    if !is_picture(settings, c1, c2, c3) {
-        return Answer::Refused(11);
-    }
-    let to = step_count(settings.transform);
-    if back {
-        undo_steps(c1, c2, c3, plan, choices, 0, to);
-    } else {
-        run_steps(c1, c2, c3, plan, choices, 0, to);
-    }
-    Answer::Done
+    let fit = choices_fit(settings, plan.bands, choices);
+    check(plan, fit, planes.lengths())?;
+    require(is_picture(settings, planes), Refusal::Sample)
 }
 
 // The planes that a picture goes to. Refused: 2, 5, 16 (wrapped), 6, 17 (in bands), 7, 8 for settings, 11 for planes that hold no picture.
-pub fn forward(plan: Plan, choices: &[u8], c1: &mut [i32], c2: &mut [i32], c3: &mut [i32]) -> Answer
-    ensures { ForwardGives plan.form plan.bands plan.settings choices.now (triple c1.old c2.old c3.old) result (triple c1.new c2.new c3.new) }
+pub fn forward(plan: Plan, choices: &[u8], planes: &mut PlanesMut) -> Result<(), Refusal>
+    ensures same { SameReferences planes.old planes.new }
+    ensures gives { ForwardGives plan.form plan.bands plan.settings choices.now (samples_mut planes.old) result (samples_mut planes.new) }
 {
-    lift_picture(plan, false, choices, c1, c2, c3)
+    check_picture(plan, choices, planes.shared())?;
+    let to = step_count(plan.settings.transform);
+    run_steps(planes, plan, choices, 0, to);
+    Ok(())
 }
 
-// The plain forms undone. Planes outside their ranges no picture goes to; of the others the steps are undone, and run again where that leaves no
-// picture.
-fn undo_planes(
-    settings: Settings,
-    bands: Bands,
-    choices: &[u8],
-    c1: &mut [i32],
-    c2: &mut [i32],
-    c3: &mut [i32],
-) -> Answer
-    ensures { InverseGives Plain bands settings choices.now (triple c1.old c2.old c3.old) result (triple c1.new c2.new c3.new) }
+// A wrapped form undone: `forward` with the steps undone, and another definition to promise. Every three planes of 0 to M have a picture.
+fn undo_wrapped(plan: Plan, choices: &[u8], planes: &mut PlanesMut) -> Result<(), Refusal>
+    requires { plan.form ≡ Wrapped }
+    ensures same { SameReferences planes.old planes.new }
+    ensures gives { InverseGives plan.form plan.bands plan.settings choices.now (samples_mut planes.old) result (samples_mut planes.new) }
+{
+    check_picture(plan, choices, planes.shared())?;
+    let to = step_count(plan.settings.transform);
+    undo_steps(planes, plan, choices, 0, to);
+    Ok(())
+}
+
+// The plain forms undone, whatever form the plan has. Planes outside their ranges no picture goes to; of the others the steps are undone, and run
+// again where that leaves no picture.
+fn undo_plain(plan: Plan, choices: &[u8], planes: &mut PlanesMut) -> Result<(), Refusal>
+    ensures same { SameReferences planes.old planes.new }
+    ensures gives { InverseGives Plain plan.bands plan.settings choices.now (samples_mut planes.old) result (samples_mut planes.new) }
 {
     let plain = Plan {
-        settings: settings,
         form: Form::Plain,
-        bands: bands,
+        ..plan
     };
-    let fit = choices_fit(settings, bands, choices);
-    let n = refusal(plain, fit, c1.len(), c2.len(), c3.len());
-    if n != 0 {
-        return Answer::Refused(n);
-    }
-    if !in_finished_ranges(settings, c1, c2, c3) {
-        return Answer::Refused(12);
-    }
+    let settings = plan.settings;
+    let fit = choices_fit(settings, plan.bands, choices);
+    check(plain, fit, planes.shared().lengths())?;
+    require(
+        in_finished_ranges(settings, planes.shared()),
+        Refusal::Unreached,
+    )?;
     let to = step_count(settings.transform);
-    undo_steps(c1, c2, c3, plain, choices, 0, to);
-    if is_picture(settings, c1, c2, c3) {
-        return Answer::Done;
+    undo_steps(planes, plain, choices, 0, to);
+    if is_picture(settings, planes.shared()) {
+        return Ok(());
     }
-    run_steps(c1, c2, c3, plain, choices, 0, to);
-    Answer::Refused(12)
+    run_steps(planes, plain, choices, 0, to);
+    Err(Refusal::Unreached)
 }
 
 // The picture that goes to these planes. Refused: the same settings, 12 for planes that no picture goes to. In the wrapped forms every three planes
 // of 0 to M have a picture, so others are refused with 11, and no step has to be run again.
-pub fn inverse(plan: Plan, choices: &[u8], c1: &mut [i32], c2: &mut [i32], c3: &mut [i32]) -> Answer
-    ensures { InverseGives plan.form plan.bands plan.settings choices.now (triple c1.old c2.old c3.old) result (triple c1.new c2.new c3.new) }
+pub fn inverse(plan: Plan, choices: &[u8], planes: &mut PlanesMut) -> Result<(), Refusal>
+    ensures same { SameReferences planes.old planes.new }
+    ensures gives { InverseGives plan.form plan.bands plan.settings choices.now (samples_mut planes.old) result (samples_mut planes.new) }
 {
     let form = plan.form;
-    let bands = plan.bands;
     match form {
-        Form::Plain => undo_planes(plan.settings, bands, choices, c1, c2, c3),
-        Form::Wrapped => lift_picture(plan, true, choices, c1, c2, c3),
+        Form::Plain => undo_plain(plan, choices, planes),
+        Form::Wrapped => undo_wrapped(plan, choices, planes),
     }
 }

@@ -1,13 +1,14 @@
 // What the calling program can get wrong, in the papers' order, from numbers and lengths alone.
-ghost use Rattle.std.specs.Prelude.{◌≡◌, ◌<◌};
-ghost use Rattle.stage.specs.Answers.{refusal};
-ghost use Rattle.stage.specs.Planes.{triple};
+ghost use Rattle.std.specs.Prelude.{◌≡◌, ◌<◌, leb};
+ghost use Rattle.std.specs.List.{list_all};
+ghost use Rattle.stage.specs.Answers.{refusal, number, reply_of};
 ghost use Rattle.stage.specs.Settings.{band_count};
 ghost use Rattle.stage.specs.Transform.{choice_count, choices_fit, settings_tests};
 
 use lifting::passes::places;
 use stage::{
-    Bands, Plan, Settings, all_equal, are_depths, bands_suit, depths_suit, is_sized, select,
+    Bands, Plan, Refusal, Settings, Triple, all_equal, are_depths, bands_suit, depths_suit,
+    is_sized, require,
 };
 
 // How many bands of so many rows a picture has, the last one perhaps shorter; none where a band has no row.
@@ -17,8 +18,7 @@ fn band_count(rows: u32, height: u32) -> usize
     if rows == 0 {
         return 0;
     }
-    let n = rows as usize;
-    (height as usize + (n - 1)) / n
+    (height as usize).div_ceil(rows as usize)
 }
 
 // How many choices there are to be: one for each place, in each band.
@@ -32,37 +32,34 @@ fn choice_count(settings: Settings, bands: Bands) -> usize
     }
 }
 
+// Whether none is above 12.
+fn are_filters(choices: &[u8]) -> bool
+    ensures { result ≡ list_all (λ f. leb f 12) choices.now }
+{
+    choices.iter().all(|choice| *choice <= 12)
+}
+
 // Whether there are so many choices, none above 12.
+#[tactic(auto, using(crate::proofs::Refusals::filters_all))]
 pub fn choices_fit(settings: Settings, bands: Bands, choices: &[u8]) -> bool
     ensures { result ≡ choices_fit bands settings choices.now }
 {
-    if choices.len() != choice_count(settings, bands) {
-        return false;
-    }
-    let mut i = 0;
-    while i < choices.len() {
-        if 12 < choices[i] {
-            return false;
-        }
-        i += 1;
-    }
-    true
+    (choices.len() == choice_count(settings, bands)) & are_filters(choices)
 }
 
-// The first setting that is refused, or 0. `choices` says whether the call's own test of the choices holds; n1, n2 and n3 are the
-// lengths of the planes. The tests are made from the last to the first, so that the first one's number stands.
-pub fn refusal(plan: Plan, choices: bool, n1: usize, n2: usize, n3: usize) -> u32
-    ensures { result ≡ refusal (settings_tests plan.form plan.bands plan.settings choices (triple n1 n2 n3)) }
+// The settings' tests. `choices` says whether the call's own test of the choices holds; `lengths` are those of the planes.
+pub fn check(plan: Plan, choices: bool, lengths: Triple<usize>) -> Result<(), Refusal>
+    ensures { number (reply_of result) ≡ refusal (settings_tests plan.form plan.bands plan.settings choices lengths) }
 {
     let settings = plan.settings;
     let form = plan.form;
     let bands = plan.bands;
     let pixels = settings.width as usize * settings.height as usize;
-    let mut n = select(all_equal(pixels, n1, n2, n3), 0, 8);
-    n = select(choices, n, 7);
-    n = select(bands_suit(bands, settings.height), n, 17);
-    n = select(settings.transform <= 3, n, 6);
-    n = select(depths_suit(form, settings.depths), n, 16);
-    n = select(are_depths(settings.depths), n, 5);
-    select(is_sized(settings.width, settings.height), n, 2)
+    require(is_sized(settings.width, settings.height), Refusal::Size)?;
+    require(are_depths(settings.depths), Refusal::Depth)?;
+    require(depths_suit(form, settings.depths), Refusal::Unequal)?;
+    require(settings.transform <= 3, Refusal::Transform)?;
+    require(bands_suit(bands, settings.height), Refusal::Band)?;
+    require(choices, Refusal::Choices)?;
+    require(all_equal(pixels, lengths), Refusal::Plane)
 }

@@ -1,83 +1,73 @@
 // A generated picture through the calls, and whether it comes back.
 ghost use Rattle.stage.specs.Settings.{UpTo16};
 
-use crate::text::{print_answer, print_planes};
-use case_pictures::{is_filled, levels};
-use case_text::print;
-use stage::{Depths, Plan};
+use crate::Run;
+use crate::text::{AnswerText, PlanesText};
+use case_pictures::{Generator, Levels};
+use stage::{Depths, Planes, PlanesMut, Triple};
 use std::io;
-use transform::{forward, inverse};
 
-// A picture's depths, and the generator's number before each of its planes.
+// The generator before each plane of a picture, and how many values the plane's samples have.
 #[derive(Clone, Copy)]
 pub(crate) struct Generated {
-    pub depths: Depths,
-    pub x1: u32,
-    pub x2: u32,
-    pub x3: u32,
+    from: Triple<Generator>,
+    levels: Triple<Levels>,
 }
 
-// Whether the planes hold the picture.
-pub(crate) fn print_compared<R: Print>(
-    rt: &R,
-    p: Generated,
-    c1: &[i32],
-    c2: &[i32],
-    c3: &[i32],
-) -> io::Result<()>
-    requires { UpTo16 p.depths }
-{
-    let first = is_filled(c1, levels(p.depths.c1), p.x1);
-    let second = is_filled(c2, levels(p.depths.c2), p.x2);
-    let third = is_filled(c3, levels(p.depths.c3), p.x3);
-    if first & (second & third) {
-        print(rt, b" the picture\n")
-    } else {
-        print(rt, b" another picture\n")
+impl Generated {
+    // Fills planes with the picture of a number.
+    pub(crate) fn fill(number: u32, depths: Depths, planes: &mut PlanesMut) -> Generated
+        requires { UpTo16 depths }
+    {
+        let levels = Triple {
+            c1: Levels::of(depths.c1),
+            c2: Levels::of(depths.c2),
+            c3: Levels::of(depths.c3),
+        };
+        let mut generator = Generator { x: number };
+        let c1 = generator;
+        generator.fill(planes.c1, levels.c1);
+        let c2 = generator;
+        generator.fill(planes.c2, levels.c2);
+        let c3 = generator;
+        generator.fill(planes.c3, levels.c3);
+        Generated {
+            from: Triple { c1, c2, c3 },
+            levels,
+        }
     }
-}
 
-fn run<R: Print>(
-    rt: &R,
-    plan: Plan,
-    choices: &[u8],
-    c1: &mut [i32],
-    c2: &mut [i32],
-    c3: &mut [i32],
-) -> io::Result<()> {
-    let a = forward(plan, choices, c1, c2, c3);
-    print_answer(rt, b"forward", a)?;
-    print_planes(rt, c1, c2, c3)?;
-    print(rt, b"\n")
+    // Whether planes hold the picture.
+    pub(crate) fn compared(self, planes: Planes) -> &'static str {
+        let first = self.from.c1.has_filled(planes.c1, self.levels.c1);
+        let second = self.from.c2.has_filled(planes.c2, self.levels.c2);
+        let third = self.from.c3.has_filled(planes.c3, self.levels.c3);
+        if first & second & third {
+            "the picture"
+        } else {
+            "another picture"
+        }
+    }
 }
 
 pub(crate) fn undo<R: Print>(
     rt: &R,
-    plan: Plan,
+    run: Run,
     p: Generated,
-    choices: &[u8],
-    c1: &mut [i32],
-    c2: &mut [i32],
-    c3: &mut [i32],
-) -> io::Result<()>
-    requires { UpTo16 p.depths }
-{
-    let a = inverse(plan, choices, c1, c2, c3);
-    print_answer(rt, b"inverse", a)?;
-    print_compared(rt, p, c1, c2, c3)
+    planes: &mut PlanesMut,
+) -> io::Result<()> {
+    let answer = AnswerText(run.inverse(planes));
+    let compared = p.compared(planes.shared());
+    println!(rt; "inverse {answer} {compared}")
 }
 
 pub(crate) fn there_and_back<R: Print>(
     rt: &R,
-    plan: Plan,
+    run: Run,
     p: Generated,
-    choices: &[u8],
-    c1: &mut [i32],
-    c2: &mut [i32],
-    c3: &mut [i32],
-) -> io::Result<()>
-    requires { UpTo16 p.depths }
-{
-    run(rt, plan, choices, c1, c2, c3)?;
-    undo(rt, plan, p, choices, c1, c2, c3)
+    planes: &mut PlanesMut,
+) -> io::Result<()> {
+    let answer = AnswerText(run.forward(planes));
+    println!(rt; "forward {answer}{}", PlanesText(planes.shared()))?;
+    undo(rt, run, p, planes)
 }

@@ -1,107 +1,78 @@
 // The limits that 01 names, from both sides, a case of each other refusal, and null steps, in both forms.
-use crate::text::{print_answer, print_choices, print_form, print_planes};
-use case_text::print;
-use stage::{Bands, Depths, Form, Plan, Settings, each};
+ghost use Rattle.std.specs.Prelude.{◌<◌};
+
+use crate::Run;
+use crate::text::{AnswerText, FormText, PlanesText};
+use stage::{Bands, Depths, Form, Plan, PlanesMut, Settings, Triple, each};
 use std::io;
-use transform::{forward, inverse};
 
 fn settings(width: u32, height: u32, depths: Depths, transform: u32) -> Settings {
     Settings {
-        width: width,
-        height: height,
-        depths: depths,
-        transform: transform,
+        width,
+        height,
+        depths,
+        transform,
     }
 }
 
-fn without_bands(form: Form, s: Settings) -> Plan {
-    Plan {
-        settings: s,
-        form: form,
-        bands: Bands::One,
+fn without_bands(form: Form, settings: Settings, choices: &[u8]) -> Run {
+    Run {
+        plan: Plan {
+            settings,
+            form,
+            bands: Bands::One,
+        },
+        choices,
     }
 }
 
 // Forward and, on what that leaves, back. Only the answers are printed.
-fn answers_in<R: Print>(
-    rt: &R,
-    form: Form,
-    width: u32,
-    height: u32,
-    c1: &mut [i32],
-    c2: &mut [i32],
-    c3: &mut [i32],
-) -> io::Result<()> {
-    let s = settings(width, height, each(8), 0);
-    let choices = [1u8; 4];
-    print_choices(rt, s, &choices)?;
-    print_form(rt, form)?;
-    print_answer(
-        rt,
-        b" forward",
-        forward(without_bands(form, s), &choices, c1, c2, c3),
+fn answers<R: Print>(rt: &R, width: u32, height: u32, planes: &mut PlanesMut) -> io::Result<()> {
+    for form in [Form::Plain, Form::Wrapped] {
+        let run = without_bands(form, settings(width, height, each(8), 0), &[1; 4]);
+        let there = AnswerText(run.forward(planes));
+        let back = AnswerText(run.inverse(planes));
+        println!(rt; "{run}{} forward {there} inverse {back}", FormText(form))?;
+    }
+    Ok(())
+}
+
+// One row and one column of N samples.
+fn lines<R: Print, const N: usize>(rt: &R) -> io::Result<()>
+    requires { N < 4294967296 }
+{
+    let mut c1 = [1i32; N];
+    let mut c2 = [2i32; N];
+    let mut c3 = [3i32; N];
+    let mut planes = Triple {
+        c1: &mut c1[..],
+        c2: &mut c2[..],
+        c3: &mut c3[..],
+    };
+    answers(rt, N as u32, 1, &mut planes)?;
+    answers(rt, 1, N as u32, &mut planes)
+}
+
+fn there_and_back<R: Print>(rt: &R, run: Run, planes: &mut PlanesMut) -> io::Result<()> {
+    print!(rt;
+        "{run} planes{}{}",
+        PlanesText(planes.shared()),
+        FormText(run.plan.form)
     )?;
-    print_answer(
-        rt,
-        b" inverse",
-        inverse(without_bands(form, s), &choices, c1, c2, c3),
-    )?;
-    print(rt, b"\n")
-}
-
-fn answers<R: Print>(
-    rt: &R,
-    width: u32,
-    height: u32,
-    c1: &mut [i32],
-    c2: &mut [i32],
-    c3: &mut [i32],
-) -> io::Result<()> {
-    answers_in(rt, Form::Plain, width, height, c1, c2, c3)?;
-    answers_in(rt, Form::Wrapped, width, height, c1, c2, c3)
-}
-
-// One row and one column.
-fn longest<R: Print>(rt: &R) -> io::Result<()> {
-    let mut c1 = [1i32; 8192];
-    let mut c2 = [2i32; 8192];
-    let mut c3 = [3i32; 8192];
-    answers(rt, 8192, 1, &mut c1, &mut c2, &mut c3)?;
-    answers(rt, 1, 8192, &mut c1, &mut c2, &mut c3)
-}
-
-fn too_long<R: Print>(rt: &R) -> io::Result<()> {
-    let mut c1 = [1i32; 8193];
-    let mut c2 = [2i32; 8193];
-    let mut c3 = [3i32; 8193];
-    answers(rt, 8193, 1, &mut c1, &mut c2, &mut c3)?;
-    answers(rt, 1, 8193, &mut c1, &mut c2, &mut c3)
+    let there = AnswerText(run.forward(planes));
+    print!(rt; " forward {there}{}", PlanesText(planes.shared()))?;
+    let back = AnswerText(run.inverse(planes));
+    println!(rt; " inverse {back}{}", PlanesText(planes.shared()))
 }
 
 // Forward and back of one pixel.
-fn pixel_in<R: Print>(
-    rt: &R,
-    form: Form,
-    s: Settings,
-    choices: &[u8],
-    red: i32,
-    green: i32,
-    blue: i32,
-) -> io::Result<()> {
-    let mut c1 = [red];
-    let mut c2 = [green];
-    let mut c3 = [blue];
-    print_choices(rt, s, choices)?;
-    print(rt, b" planes")?;
-    print_planes(rt, &c1, &c2, &c3)?;
-    print_form(rt, form)?;
-    let a = forward(without_bands(form, s), choices, &mut c1, &mut c2, &mut c3);
-    print_answer(rt, b" forward", a)?;
-    print_planes(rt, &c1, &c2, &c3)?;
-    let b = inverse(without_bands(form, s), choices, &mut c1, &mut c2, &mut c3);
-    print_answer(rt, b" inverse", b)?;
-    print_planes(rt, &c1, &c2, &c3)?;
-    print(rt, b"\n")
+fn pixel_in<R: Print>(rt: &R, run: Run, red: i32, green: i32, blue: i32) -> io::Result<()> {
+    let mut planes = Triple {
+        c1: &mut [red][..],
+        c2: &mut [green][..],
+        c3: &mut [blue][..],
+    };
+    there_and_back(rt, run, &mut planes)
 }
 
 fn pixel<R: Print>(
@@ -112,33 +83,46 @@ fn pixel<R: Print>(
     green: i32,
     blue: i32,
 ) -> io::Result<()> {
-    pixel_in(rt, Form::Plain, s, choices, red, green, blue)?;
-    pixel_in(rt, Form::Wrapped, s, choices, red, green, blue)
-}
-
-fn of_depths<R: Print>(rt: &R, c1: u32, c2: u32, c3: u32) -> io::Result<()> {
-    let depths = Depths {
-        c1: c1,
-        c2: c2,
-        c3: c3,
-    };
-    pixel(rt, settings(1, 1, depths, 0), &[0; 4], 3, 1, 2)?;
+    for form in [Form::Plain, Form::Wrapped] {
+        pixel_in(rt, without_bands(form, s, choices), red, green, blue)?;
+    }
     Ok(())
 }
 
 // Depths past the limits, of all planes and of one.
 fn other_depths<R: Print>(rt: &R) -> io::Result<()> {
-    of_depths(rt, 1, 1, 1)?;
-    of_depths(rt, 2, 2, 2)?;
-    of_depths(rt, 16, 16, 16)?;
-    of_depths(rt, 17, 17, 17)?;
-    of_depths(rt, 1, 8, 8)?;
-    of_depths(rt, 8, 17, 8)?;
-    of_depths(rt, 8, 8, 1)
+    for (c1, c2, c3) in [
+        (1, 1, 1),
+        (2, 2, 2),
+        (16, 16, 16),
+        (17, 17, 17),
+        (1, 8, 8),
+        (8, 17, 8),
+        (8, 8, 1),
+    ] {
+        let depths = Triple { c1, c2, c3 };
+        pixel(rt, settings(1, 1, depths, 0), &[0; 4], 3, 1, 2)?;
+    }
+    Ok(())
 }
 
-fn of_samples<R: Print>(rt: &R, red: i32, green: i32, blue: i32) -> io::Result<()> {
-    pixel(rt, settings(1, 1, each(8), 0), &[0; 4], red, green, blue)?;
+fn other_samples<R: Print>(rt: &R) -> io::Result<()> {
+    for (red, green, blue) in [(255, 0, 255), (256, 0, 255), (0, 256, 0), (0, 0, -1)] {
+        pixel(rt, settings(1, 1, each(8), 0), &[0; 4], red, green, blue)?;
+    }
+    Ok(())
+}
+
+// Five, six and five bits: the highest samples, and one past the highest of each plane.
+fn mobile<R: Print>(rt: &R) -> io::Result<()> {
+    let depths = Triple {
+        c1: 5,
+        c2: 6,
+        c3: 5,
+    };
+    for (red, green, blue) in [(31, 63, 31), (32, 63, 31), (31, 64, 31), (31, 32, 32)] {
+        pixel(rt, settings(1, 1, depths, 0), &[0; 4], red, green, blue)?;
+    }
     Ok(())
 }
 
@@ -149,33 +133,8 @@ fn of_settings<R: Print>(
     transform: u32,
     choices: &[u8],
 ) -> io::Result<()> {
-    pixel(
-        rt,
-        settings(width, height, each(8), transform),
-        choices,
-        10,
-        200,
-        60,
-    )
-}
-
-// Five, six and five bits.
-fn of_pixel<R: Print>(rt: &R, red: i32, green: i32, blue: i32) -> io::Result<()> {
-    let depths = Depths {
-        c1: 5,
-        c2: 6,
-        c3: 5,
-    };
-    pixel(rt, settings(1, 1, depths, 0), &[0; 4], red, green, blue)?;
-    Ok(())
-}
-
-// The highest samples, and one past the highest of each plane.
-fn mobile<R: Print>(rt: &R) -> io::Result<()> {
-    of_pixel(rt, 31, 63, 31)?;
-    of_pixel(rt, 32, 63, 31)?;
-    of_pixel(rt, 31, 64, 31)?;
-    of_pixel(rt, 31, 32, 32)
+    let s = settings(width, height, each(8), transform);
+    pixel(rt, s, choices, 10, 200, 60)
 }
 
 // Sizes of no sample and of two, a transform past the last, and choices too many, too few and too high, with the highest that pass.
@@ -202,13 +161,10 @@ fn null_steps<R: Print>(rt: &R) -> io::Result<()> {
 }
 
 pub(crate) fn limits<R: Print>(rt: &R) -> io::Result<()> {
-    longest(rt)?;
-    too_long(rt)?;
+    lines::<R, 8192>(rt)?;
+    lines::<R, 8193>(rt)?;
     other_depths(rt)?;
-    of_samples(rt, 255, 0, 255)?;
-    of_samples(rt, 256, 0, 255)?;
-    of_samples(rt, 0, 256, 0)?;
-    of_samples(rt, 0, 0, -1)?;
+    other_samples(rt)?;
     mobile(rt)?;
     other_settings(rt)?;
     null_steps(rt)

@@ -1,6 +1,6 @@
 -- A trial's steps: a place's filter matters from its step on, planes that no step changes stay as they are, and the estimates of the
 -- planes that are changed and of the others add up.
-use mathlib.Core.Path.{◌≡◌, refl, sym, ap, ap₂, ◌∙◌, subst}
+use mathlib.Core.Path.{◌≡◌, refl, sym, ap, ◌∙◌}
 use mathlib.Core.Bool.{Bool, true, false, cond, not, ◌||◌}
 use mathlib.Core.List.{List, [], ◌∷◌}
 use Prim.Native.Nat.{ℕ, zero, suc, ◌+◌, ◌≤◌}
@@ -11,14 +11,15 @@ use lib.ListN.{length, take, drop, set}
 use lib.Seq.{get_or-set_other}
 use Rattle.integers.specs.Slices.{slice}
 use Rattle.integers.proofs.Booleans.{false_fails}
-use Rattle.integers.proofs.Slices.{slice_none, slice_back}
+use Rattle.integers.proofs.Slices.{slice_back}
 use Rattle.stage.specs.declared.Settings.{Settings}
 use Rattle.stage.specs.declared.Form.TheVariants.{Plain}
 use Rattle.stage.specs.declared.Bands.TheVariants.{One}
 use Rattle.stage.specs.declared.Plane.{Plane}
 use Rattle.stage.specs.declared.Plane.TheVariants.{C1, C2, C3}
 use Rattle.stage.specs.Settings.{depth_at, Allowed}
-use Rattle.stage.specs.Planes.{Triple, Planes, triple, get, same_plane}
+use Rattle.stage.specs.declared.Triple.{Triple}
+use Rattle.stage.specs.Planes.{Planes, triple, get, same_plane}
 use Rattle.stage.specs.Steps.{Setup, Step, Term, ◌ᵈ◌, ◌⊕◌, ◌/2, ◌/4, step, run, undo, steps}
 use Rattle.stage.specs.Ranges.{widest}
 use Rattle.stage.specs.Transform.{setup}
@@ -30,9 +31,9 @@ use Rattle.stage.proofs.Numbers.{extent_widest, widest_most}
 use Rattle.stage.proofs.Validity.{pixels_some, pixels_most}
 use Rattle.estimate.specs.Counting.{Countable}
 use Rattle.lifting.specs.Passes.{has_place, step_of, changes, last_change}
-use Rattle.lifting.specs.Steps.{Ready, AtStep, StepsFit, UndoReady}
-use Rattle.lifting.proofs.Readiness.{at_finished, at_next, at_ready, ready_undo}
-use Rattle.trials.specs.Trials.{changed, others, part_estimate, base_estimate, trial_estimate}
+use Rattle.lifting.specs.Steps.{AtStep, StepsFit, UndoReady}
+use Rattle.lifting.proofs.Readiness.{at_finished, ready_undo}
+use Rattle.trials.specs.Trials.{changed, others, part_estimate, base_estimate, trial_estimate, ChoicesReady}
 
 -- ---- two tests, both false
 or-false : (a b : Bool) → (a || b) ≡ false → (a ≡ false) × (b ≡ false)
@@ -117,25 +118,31 @@ trial_sum s k n φ q p {b} {base} {e} all ran set_is base-is e-is =
     let x : e ≡ part_estimate w (changed l) (run (setup Plain One s φ) l q) = e-is ∙ ap (λ (c : Triple Bool). part_estimate w c p) set_is ∙ ap (part_estimate w (changed l)) r in
     omega (arith, base-is, x, parts_estimate w l q (run (setup Plain One s φ) l q) (λ c. run_unchanged (setup Plain One s φ) l c q))
 
--- ---- the steps from k on, run and undone, or only run
-module _ {s : Settings} {φ : List ℕ} {k n : ℕ} (fit : StepsFit One s φ k n) (q : Planes) {p : Planes} (ran : p ≡ run (setup Plain One s φ) (slice (steps s.transform) k n) q) where
-  pub ready_left : ((c : Plane) → depth_at s c ≤ 16) → AtStep s k q → (u : Bool) {b : ℕ} → b ≡ cond u k n → UndoReady Plain One s φ b n p
-  ready_left deep z true e = rw e (ready_undo deep fit z ran)
-  ready_left deep z false e = rw e (record {
-    fit = record { transform = fit.transform; depth = fit.depth; order = omega arith; last = fit.last; bands = fit.bands; choices = fit.choices };
-    ready = λ i h g.
-        let at : i ≡ n = omega arith in
-        subst (Ready s)
-        (sym (ap (λ (m : List Step). undo (setup Plain One s φ) m p) (ap (λ (j : ℕ). slice (steps s.transform) j n) at ∙ slice_none (steps s.transform) n)))
-        (at_ready deep (at_next Plain One tt z n φ p fit.order ran));
-  })
+-- ---- all steps from k on, run and undone
+pub steps_fit : {s : Settings} {k b n : ℕ} {q : Planes} {φ l : List ℕ} → ChoicesReady s k b q φ l → n ≡ length (steps s.transform) → StepsFit One s φ k n
+steps_fit p e = record {
+  transform = p.trial.allowed.transform_most;
+  depth = p.trial.allowed.depth_most C1;
+  bands = tt;
+  order = omega (arith, e, p.trial.step);
+  last = omega (arith, e);
+  choices = p.choices;
+}
 
-  pub planes_left : n ≡ length (steps s.transform) → (u : Bool) {b : ℕ} {o : Planes} → b ≡ cond u k n → o ≡ undo (setup Plain One s φ) (slice (steps s.transform) b n) p
-      → o ≡ cond u q (run (setup Plain One s φ) (drop k (steps s.transform)) q)
-  planes_left all true e h = h ∙ ap₂ (λ (i : ℕ) (r : Planes). undo (setup Plain One s φ) (slice (steps s.transform) i n) r) e ran ∙ slice_undone One s φ k n q
-  planes_left all false e h =
-      h ∙ ap (λ (m : List Step). undo (setup Plain One s φ) m p) (ap (λ (i : ℕ). slice (steps s.transform) i n) e ∙ slice_none (steps s.transform) n) ∙ ran
-      ∙ ap (λ (m : List Step). run (setup Plain One s φ) m q) (slice_back (steps s.transform) k n all)
+pub run_all : (s : Settings) (k n : ℕ) (φ : List ℕ) (q : Planes) {p : Planes} → n ≡ length (steps s.transform)
+    → p ≡ run (setup Plain One s φ) (slice (steps s.transform) k n) q → p ≡ run (setup Plain One s φ) (drop k (steps s.transform)) q
+run_all s k n φ q all ran = ran ∙ ap (λ (m : List Step). run (setup Plain One s φ) m q) (slice_back (steps s.transform) k n all)
+
+module _ {s : Settings} {φ : List ℕ} {k n : ℕ} (fit : StepsFit One s φ k n) (all : n ≡ length (steps s.transform)) (q : Planes) {p : Planes}
+    (ran : p ≡ run (setup Plain One s φ) (drop k (steps s.transform)) q) where
+  by_slice : p ≡ run (setup Plain One s φ) (slice (steps s.transform) k n) q
+  by_slice = ran ∙ ap (λ (m : List Step). run (setup Plain One s φ) m q) (sym (slice_back (steps s.transform) k n all))
+
+  pub ready_back : ((c : Plane) → depth_at s c ≤ 16) → AtStep s k q → UndoReady Plain One s φ k n p
+  ready_back deep z = ready_undo deep fit z by_slice
+
+  pub planes_back : {o : Planes} → o ≡ undo (setup Plain One s φ) (slice (steps s.transform) k n) p → o ≡ q
+  planes_back h = h ∙ ap (λ (r : Planes). undo (setup Plain One s φ) (slice (steps s.transform) k n) r) by_slice ∙ slice_undone One s φ k n q
 
 -- ---- planes that stand before a step can be counted
 pub countable : {s : Settings} {k : ℕ} {q : Planes} → Allowed s → AtStep s k q → (c : Plane) → Countable s.width (widest s) (get q c)

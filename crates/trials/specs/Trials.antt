@@ -3,20 +3,20 @@ use Rattle.std.specs.Prelude.{◌≡◌, Bool, true, cond, not, List, ℕ, ◌+�
 use Rattle.stage.specs.declared.Settings.{Settings}
 use Rattle.stage.specs.declared.Form.TheVariants.{Plain}
 use Rattle.stage.specs.declared.Bands.TheVariants.{One}
+use Rattle.stage.specs.declared.Triple.{Triple}
 use Rattle.stage.specs.declared.Plane.{Plane}
 use Rattle.stage.specs.declared.Plane.TheVariants.{C1, C2, C3}
 use Rattle.stage.specs.Settings.{Allowed}
-use Rattle.stage.specs.Planes.{Triple, Planes, triple, get}
+use Rattle.stage.specs.Planes.{Planes, triple, get, SameReferences}
 use Rattle.stage.specs.Steps.{Step, steps, places, run}
 use Rattle.stage.specs.Ranges.{widest}
 use Rattle.stage.specs.Transform.{choices_fit, setup}
-use Rattle.stage.specs.Logarithm.{Logarithms}
 use Rattle.stage.specs.Estimate.{plane_estimate, picture_estimate}
 use Rattle.stage.specs.Search.{winner, round, choices_estimate}
 use Rattle.estimate.specs.Counting.{Countable, Counters}
 use Rattle.lifting.specs.Passes.{step_of, changes}
 use Rattle.lifting.specs.Steps.{AtStep}
-use Rattle.trials.specs.declared.trial.PlaneSet.{PlaneSet}
+use Rattle.trials.specs.declared.trial.Trial.{Trial}
 use Rattle.trials.specs.declared.place.Best.{Best}
 use Rattle.trials.specs.declared.place.Place.{Place}
 
@@ -26,9 +26,6 @@ changed l = triple (changes l C1) (changes l C2) (changes l C3)
 
 abbrev pub others : Triple Bool → Triple Bool
 others b = triple (not b.c1) (not b.c2) (not b.c3)
-
-abbrev pub read_set : PlaneSet → Triple Bool
-read_set b = triple b.c1 b.c2 b.c3
 
 -- the sum of the estimates of some of the planes
 unfoldable pub part_estimate : ℕ → Triple Bool → Planes → ℕ
@@ -44,20 +41,18 @@ unfoldable pub trial_estimate : Settings → ℕ → Planes → List ℕ → ℕ
 trial_estimate s k q φ = picture_estimate s.width (run (setup Plain One s φ) (drop k (steps s.transform)) q)
 
 -- ---- what is asked and answered
--- planes q that stand before step k, with counters l and the table of logarithms
-pub record TrialReady (s : Settings) (k : ℕ) (q : Planes) (l table : List ℕ) : Type 0 where
+-- planes q that stand before step k, with counters l
+pub record TrialReady (s : Settings) (k : ℕ) (q : Planes) (l : List ℕ) : Type 0 where
   pub allowed : Allowed s
   pub step : k ≤ length (steps s.transform)
   pub planes : AtStep s k q
   pub counters : Counters (widest s) l
-  pub logarithms : Logarithms table
 
 -- three planes p that can be counted
-pub record PartReady (s : Settings) (p : Planes) (l table : List ℕ) : Type 0 where
+pub record PartReady (s : Settings) (p : Planes) (l : List ℕ) : Type 0 where
   pub allowed : Allowed s
   pub planes : (c : Plane) → Countable s.width (widest s) (get p c)
   pub counters : Counters (widest s) l
-  pub logarithms : Logarithms table
 
 -- the sum of some planes' estimates is answered; the bound lets two such sums be added
 pub record PartAnswer (e r : ℕ) : Type 0 where
@@ -70,8 +65,8 @@ pub record PartFound (s : Settings) (b : Triple Bool) (p : Planes) (r : ℕ) (l 
   pub counters : Counters (widest s) l
 
 -- a trial of choices φ; b is the estimate of the planes that no step from k on changes
-pub record ChoicesReady (s : Settings) (k b : ℕ) (q : Planes) (φ l table : List ℕ) : Type 0 where
-  pub trial : TrialReady s k q l table
+pub record ChoicesReady (s : Settings) (k b : ℕ) (q : Planes) (φ l : List ℕ) : Type 0 where
+  pub trial : TrialReady s k q l
   pub choices : T (choices_fit One s φ)
   pub base : PartAnswer (base_estimate s k q) b
 
@@ -91,8 +86,8 @@ pub record PlaceReady (s : Settings) (q : Planes) (φ : List ℕ) (x : Place) : 
   pub present : x.present.estimate ≡ trial_estimate s x.step q (set φ x.place x.present.filter)
 
 -- filter f is to be tried, and was tried
-pub record FilterReady (s : Settings) (x : Place) (f : ℕ) (q : Planes) (φ l table : List ℕ) : Type 0 where
-  pub trial : TrialReady s x.step q l table
+pub record FilterReady (s : Settings) (x : Place) (f : ℕ) (q : Planes) (φ l : List ℕ) : Type 0 where
+  pub trial : TrialReady s x.step q l
   pub place : PlaceReady s q φ x
   pub filter : f ≤ 12
 
@@ -110,8 +105,8 @@ pub record Leads (e : List ℕ → ℕ) (φ : List ℕ) (k n : ℕ) (b : Best) :
   pub estimate : b.estimate ≡ e (set φ k b.filter)
 
 -- the choices have the estimate x, and place k is one of theirs
-pub record ChooseReady (s : Settings) (k x : ℕ) (q : Planes) (φ l table : List ℕ) : Type 0 where
-  pub trial : TrialReady s (step_of (steps s.transform) k) q l table
+pub record ChooseReady (s : Settings) (k x : ℕ) (q : Planes) (φ l : List ℕ) : Type 0 where
+  pub trial : TrialReady s (step_of (steps s.transform) k) q l
   pub choices : T (choices_fit One s φ)
   pub place : k < places (steps s.transform)
   pub estimate : x ≡ trial_estimate s (step_of (steps s.transform) k) q φ
@@ -122,8 +117,8 @@ pub record Chosen (s : Settings) (j k : ℕ) (q : Planes) (φ : List ℕ) (r : �
   pub found : TrialFound s j true q ψ r p l
 
 -- ---- rounds: choices φ that fit, with their estimate x
-pub record RoundReady (s : Settings) (x : ℕ) (q : Planes) (φ l table : List ℕ) : Type 0 where
-  pub trial : TrialReady s 0 q l table
+pub record RoundReady (s : Settings) (x : ℕ) (q : Planes) (φ l : List ℕ) : Type 0 where
+  pub trial : TrialReady s 0 q l
   pub choices : T (choices_fit One s φ)
   pub estimate : x ≡ choices_estimate s q φ
 
@@ -137,3 +132,11 @@ pub record RoundsDone (s : Settings) (q : Planes) (χ : List ℕ) (r : ℕ) (p :
 
 abbrev pub RoundDone : Settings → Planes → List ℕ → ℕ → Planes → List ℕ → List ℕ → Type 0
 RoundDone s q φ r p ψ l = RoundsDone s q (round (choices_estimate s q) (places (steps s.transform)) φ) r p ψ l
+
+-- a trial's settings are the same, and what is lent to it is lent still
+pub record SameTrial (t u : Trial) : Type 0 where
+  pub settings : u.settings ≡ t.settings
+  pub planes : u.planes.ghost_name ≡ t.planes.ghost_name
+  pub each : SameReferences t.planes.now u.planes.now
+  pub counters : u.counters.ghost_name ≡ t.counters.ghost_name
+  pub long : length u.counters.now ≡ length t.counters.now

@@ -1,65 +1,64 @@
-use mathlib.Core.Path.{◌≡◌, sym, ap, ◌∙◌}
-use mathlib.Core.Bool.{Bool, true}
+use borrow.Author.Rules.{rules}
+use mathlib.Core.Path.{◌≡◌, ap, ◌∙◌}
 use mathlib.Core.List.{List}
 use Prim.Native.Nat.{ℕ}
-use lib.ListN.{length}
+use lib.ListN.{length, replicate}
+use Rattle.std.specs.Prelude.{Ok}
+use Rattle.std.proofs.lemmas.Result.{err_from_is_err_and}
 use Rattle.stage.specs.declared.Settings.{Settings}
-use Rattle.stage.specs.declared.Bands.TheVariants.{One}
-use Rattle.stage.specs.Answers.{Test, refusal}
-use Rattle.stage.specs.Planes.{Planes, triple}
-use Rattle.stage.specs.Transform.{choices_fit, lengths, is_picture}
-use Rattle.stage.specs.Search.{cleared, cleared_counters, counters_fit, scratch_tests, estimated, estimate_in_place}
-use Rattle.stage.proofs.Answers.{Decides, decides}
-use Rattle.trials.specs.Searches.{PictureReady}
-use Rattle.search.specs.Calls.{scratch_of}
-use Rattle.search.proofs.Calls.{success, picture_ready}
-use Rattle.in_place.proofs.Calls.{Passed, passed, answered}
+use Rattle.stage.specs.declared.Triple.{Triple}
+use Rattle.stage.specs.Answers.{refusal, number_of, outcome_of}
+use Rattle.stage.specs.Planes.{Planes, samples_mut}
+use Rattle.stage.specs.Transform.{lengths}
+use Rattle.stage.specs.Estimate.{counted}
+use Rattle.stage.specs.Search.{cleared_counters, counters_fit, scratch_fits, estimated, estimate_in_place}
+use Rattle.stage.proofs.Answers.{err_outcome, ok_outcome}
+use Rattle.search.specs.Calls.{scratch_of, estimate_tests}
+use Rattle.search.proofs.Calls.{counters_ready, estimate_ready, answered}
+use Rattle.in_place.proofs.Calls.{estimate_same, made}
 use Rattle.in_place.proofs.estimate.Goals as goal
 
-module _ (s : Settings) (φ : List ℕ) (p : Planes) (counters : List ℕ) where
-  abbrev tests : Bool → List Test
-  tests b = scratch_tests s b (lengths p) (counters_fit s (length counters))
+-- the number of the first test that fails, of planes q and lengths r as they were lent on
+abbrev first : Settings → List ℕ → ℕ → Planes → Triple ℕ → ℕ
+first s φ n q r = refusal (estimate_tests s φ q (scratch_fits s r n))
 
-  module _ {fit : Bool} {n : ℕ} (f : fit ≡ choices_fit One s φ) (e : n ≡ refusal (tests fit)) where
-    decision : Decides (tests (choices_fit One s φ)) (is_picture s p) 11 (estimated s p φ) (cleared_counters (scratch_of p counters)) (scratch_of p counters) n
-    decision =
-        decides (tests (choices_fit One s φ)) _ 11 _ _ _ (tt, (tt, (tt, (tt, (tt, (tt, (tt, (tt, (tt, tt))))))))) n
-        (e ∙ ap (λ (b : Bool). refusal (tests b)) f)
-
-    past : n ≡ 0 → Passed s (choices_fit One s φ) p counters
-    past z = passed s (choices_fit One s φ) p counters (decision.passed z)
-
-    ready : n ≡ 0 → is_picture s p ≡ true → {l : List ℕ} → l ≡ cleared 0 counters → PictureReady s p l
-    ready z picture g = let h = past z in picture_ready p counters h.settings h.enough picture g
-
-pub returns-then-refused-ne0 : goal.returns-then-refused-ne0
+pub returns-in_err-check_estimate-clause-gives : goal.returns-in_err-check_estimate-clause-gives
 unfolding estimate_in_place
-returns-then-refused-ne0 c =
+returns-in_err-check_estimate-clause-gives c =
     let a = c.args in
-    (decision a.settings a.choices.now (triple a.c1.now a.c2.now a.c3.now) a.counters.now c.choices_fit-fit.ensures c.counters_refusal-refused.ensures).first c.if-refused-ne0.true
+    let s = a.settings in
+    let φ = a.choices.now in
+    let p = samples_mut a.planes.now in
+    let l = a.counters.now in
+    let e = c.in_err-check_estimate.field-0.0 in
+    let r = err_from_is_err_and c.from_residual.result c.from_residual.ensures.1 in
+    let k = made s p (length l) (first s φ (length l)) (number_of e) c.lengths-room.ensures c.shared.ensures c.shared-2.ensures c.in_err-check_estimate.ensures in
+    rw (r.1, r.2) (err_outcome (estimate_tests s φ p (counters_fit s (length l))) (estimated s p φ) (cleared_counters (scratch_of p l)) (scratch_of p l) e (k ∙ estimate_same s p (length l) φ))
 
-pub is_picture-requires : goal.is_picture-requires
-is_picture-requires c = let a = c.args in (past a.settings a.choices.now (triple a.c1.now a.c2.now a.c3.now) a.counters.now c.choices_fit-fit.ensures c.counters_refusal-refused.ensures c.if-refused-ne0.false).settings.allowed
+pub estimate_picture-e-requires-clause-picture_ready : goal.estimate_picture-e-requires-clause-picture_ready
+estimate_picture-e-requires-clause-picture_ready c =
+    let a = c.args in
+    let s = a.settings in
+    let φ = a.choices.now in
+    let p = samples_mut a.planes.now in
+    let l = a.counters.now in
+    let k = made s p (length l) (first s φ (length l)) 0 c.lengths-room.ensures c.shared.ensures c.shared-2.ensures c.in_ok-check_estimate.ensures in
+    let r = estimate_ready s φ p p l k in
+    let zeros : c.fill.new.self ≡ replicate (length l) 0 = search rules in
+    record { allowed = r.allowed; picture = r.picture; counters = counters_ready s l r.enough zeros }
 
-pub returns-then-not-is_picture : goal.returns-then-not-is_picture
+pub returns-clause-gives : goal.returns-clause-gives
 unfolding estimate_in_place
-returns-then-not-is_picture c =
+returns-clause-gives c =
     let a = c.args in
-    (decision a.settings a.choices.now (triple a.c1.now a.c2.now a.c3.now) a.counters.now c.choices_fit-fit.ensures c.counters_refusal-refused.ensures).last c.if-refused-ne0.false (sym c.is_picture.ensures ∙ c.if-not-is_picture.true)
-
-pub estimate_picture-e-requires : goal.estimate_picture-e-requires
-estimate_picture-e-requires c =
-    let a = c.args in
-    record {
-      picture_ready = ready a.settings a.choices.now (triple a.c1.now a.c2.now a.c3.now) a.counters.now c.choices_fit-fit.ensures c.counters_refusal-refused.ensures c.if-refused-ne0.false (sym c.is_picture.ensures ∙ c.if-not-is_picture.false) c.clear_counters.ensures;
-      t = (past a.settings a.choices.now (triple a.c1.now a.c2.now a.c3.now) a.counters.now c.choices_fit-fit.ensures c.counters_refusal-refused.ensures c.if-refused-ne0.false).settings.choices_fit;
-    }
-
-pub returns : goal.returns
-unfolding estimate_in_place
-returns c =
-    let a = c.args in
-    let f = c.estimate_picture-e.ensures in
-    success c.found.ensures
-    ((decision a.settings a.choices.now (triple a.c1.now a.c2.now a.c3.now) a.counters.now c.choices_fit-fit.ensures c.counters_refusal-refused.ensures).succeeds c.if-refused-ne0.false (sym c.is_picture.ensures ∙ c.if-not-is_picture.false) _ _
-    (answered (past a.settings a.choices.now (triple a.c1.now a.c2.now a.c3.now) a.counters.now c.choices_fit-fit.ensures c.counters_refusal-refused.ensures c.if-refused-ne0.false) _ _ f.estimate) (λ o. scratch_of (f.planes o) ((f.counters ∙ c.clear_counters.ensures) o)))
+    let s = a.settings in
+    let φ = a.choices.now in
+    let p = samples_mut a.planes.now in
+    let l = a.counters.now in
+    let k = made s p (length l) (first s φ (length l)) 0 c.lengths-room.ensures c.shared.ensures c.shared-2.ensures c.in_ok-check_estimate.ensures in
+    let f = c.estimate_picture-e.ensures.found in
+    let zeros : c.fill.new.self ≡ replicate (length l) 0 = search rules in
+    let room = ap (λ (r : Triple ℕ). record { estimate = c.estimate_picture-e.result; samples = counted r.c1 }) (c.lengths-room.ensures ∙ ap lengths c.shared.ensures) in
+    let e = answered φ _ (estimate_ready s φ p p l k).picture f.estimate (c.found.ensures ∙ room) in
+    (λ i. outcome_of (Ok (e i)) (scratch_of (f.planes i) ((f.counters ∙ zeros) i)))
+    ∙ ok_outcome (estimate_tests s φ p (counters_fit s (length l))) (estimated s p φ) (cleared_counters (scratch_of p l)) (scratch_of p l) (k ∙ estimate_same s p (length l) φ)

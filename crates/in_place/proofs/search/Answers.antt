@@ -1,77 +1,85 @@
-use mathlib.Core.Path.{◌≡◌, sym, ap, ◌∙◌}
-use mathlib.Core.Bool.{Bool, true, cond}
-use mathlib.Core.List.{List, [], ◌∷◌, ◌++◌}
+use borrow.Author.Rules.{rules}
+use mathlib.Core.Path.{◌≡◌, ap, ◌∙◌}
+use mathlib.Core.List.{List}
 use Prim.Native.Nat.{ℕ}
-use lib.Dec.{eqb, eqb→eq}
-use lib.ListN.{length}
+use lib.ListN.{length, replicate}
+use Rattle.std.specs.Prelude.{Ok}
+use Rattle.std.proofs.lemmas.Result.{err_from_is_err_and}
 use Rattle.stage.specs.declared.Settings.{Settings}
-use Rattle.stage.specs.declared.Bands.TheVariants.{One}
-use Rattle.stage.specs.Answers.{Test, ◌else◌, refusal, between}
-use Rattle.stage.specs.Planes.{Planes, triple}
-use Rattle.stage.specs.Steps.{steps, places}
-use Rattle.stage.specs.Transform.{count_fits, lengths, is_picture}
-use Rattle.stage.specs.Search.{cleared, cleared_counters, counters_fit, scratch_tests, estimated, winners, search_in_place}
-use Rattle.stage.proofs.Answers.{holds_append, Decides, decides}
-use Rattle.trials.specs.Searches.{PictureReady}
-use Rattle.search.specs.Calls.{lent, scratch_of}
-use Rattle.search.proofs.Calls.{search_refused, success, picture_ready}
-use Rattle.in_place.proofs.Calls.{Passed, passed, answered}
+use Rattle.stage.specs.declared.Triple.{Triple}
+use Rattle.stage.specs.Answers.{Test, refusal, number_of, outcome_of}
+use Rattle.stage.specs.Planes.{Planes, samples_mut}
+use Rattle.stage.specs.Transform.{lengths}
+use Rattle.stage.specs.Estimate.{counted}
+use Rattle.stage.specs.Search.{Lent, winners, cleared_counters, counters_fit, scratch_fits, estimated, search_in_place}
+use Rattle.stage.proofs.Answers.{err_outcome, ok_outcome}
+use Rattle.search.specs.Calls.{scratch_of, lent, search_tests}
+use Rattle.search.specs.Copies.{CopyReady}
+use Rattle.search.proofs.Calls.{counters_ready, search_ready, answered}
+use Rattle.in_place.proofs.Calls.{search_same, made}
 use Rattle.in_place.proofs.search.Goals as goal
 
-module _ (s : Settings) (rounds : ℕ) (φ : List ℕ) (p : Planes) (counters : List ℕ) where
-  abbrev fit : Bool
-  fit = count_fits One s (length φ)
+module _ (s : Settings) (rounds : ℕ) (φ : List ℕ) (p : Planes) (l : List ℕ) where
+  abbrev tests : List Test
+  tests = search_tests s rounds (length φ) p (counters_fit s (length l))
 
-  abbrev enough : Bool
-  enough = counters_fit s (length counters)
+  -- the number of the first test that fails, of planes q and lengths r as they were lent on
+  abbrev first : Planes → Triple ℕ → ℕ
+  first q r = refusal (search_tests s rounds (length φ) q (scratch_fits s r (length l)))
 
-  abbrev tests : Bool → List Test
-  tests b = scratch_tests s b (lengths p) enough
+  ready : 0 ≡ first p (lengths p) → CopyReady s p p l
+  ready = search_ready s rounds (length φ) p p l
 
-  abbrev last : List Test
-  last = (between 1 4 rounds else 10) ∷ []
+  same : first p (lengths p) ≡ refusal tests
+  same = search_same s p (length l) rounds (length φ)
 
-  module _ {k m n : ℕ} (f : k ≡ places (steps s.transform)) (e : m ≡ refusal (tests (eqb (length φ) k))) (g : n ≡ cond (eqb m 0) (cond (between 1 4 rounds) 0 10) m) where
-    decision : Decides (tests fit ++ last) (is_picture s p) 11 (estimated s p (winners s p rounds)) (record { choices = winners s p rounds; scratch = cleared_counters (scratch_of p counters) }) (lent φ p counters) n
-    decision =
-        decides (tests fit ++ last) _ 11 _ _ _ (tt, (tt, (tt, (tt, (tt, (tt, (tt, (tt, (tt, (tt, tt)))))))))) n
-        (search_refused s fit (lengths p) enough rounds (e ∙ ap (λ (n : ℕ). refusal (tests (eqb (length φ) n))) f) g)
+  -- what is lent, and what success leaves
+  abbrev before : Lent
+  before = lent φ p l
 
-    past : n ≡ 0 → Passed s fit p counters
-    past z = passed s fit p counters ((holds_append (tests fit) last).0 (decision.passed z)).0
+  abbrev after : Lent
+  after = record { choices = winners s p rounds; scratch = cleared_counters (scratch_of p l) }
 
-    ready : n ≡ 0 → is_picture s p ≡ true → {l : List ℕ} → l ≡ cleared 0 counters → PictureReady s p l
-    ready z picture g = let h = past z in picture_ready p counters h.settings h.enough picture g
-
-pub returns-then-refused-ne0 : goal.returns-then-refused-ne0
+pub returns-in_err-check_search-clause-gives : goal.returns-in_err-check_search-clause-gives
 unfolding search_in_place
-returns-then-refused-ne0 c =
+returns-in_err-check_search-clause-gives c =
     let a = c.args in
-    (decision a.settings a.rounds a.choices.now (triple a.c1.now a.c2.now a.c3.now) a.counters.now c.places.ensures c.counters_refusal-first.ensures c.search_refusal-refused.ensures).first c.if-refused-ne0.true
+    let s = a.settings in
+    let n = a.rounds in
+    let φ = a.choices.now in
+    let p = samples_mut a.planes.now in
+    let l = a.counters.now in
+    let e = c.in_err-check_search.field-0.0 in
+    let r = err_from_is_err_and c.from_residual.result c.from_residual.ensures.1 in
+    let k = made s p (length l) (first s n φ p l) (number_of e) c.lengths-room.ensures c.shared.ensures c.shared-2.ensures c.in_err-check_search.ensures in
+    rw (r.1, r.2) (err_outcome (tests s n φ p l) (estimated s p (winners s p n)) (after s n φ p l) (before s n φ p l) e (k ∙ same s n φ p l))
 
-pub is_picture-requires : goal.is_picture-requires
-is_picture-requires c = let a = c.args in (past a.settings a.rounds a.choices.now (triple a.c1.now a.c2.now a.c3.now) a.counters.now c.places.ensures c.counters_refusal-first.ensures c.search_refusal-refused.ensures c.if-refused-ne0.false).settings.allowed
+pub search_picture-won-requires-clause-picture_ready : goal.search_picture-won-requires-clause-picture_ready
+search_picture-won-requires-clause-picture_ready c =
+    let a = c.args in
+    let s = a.settings in
+    let n = a.rounds in
+    let φ = a.choices.now in
+    let p = samples_mut a.planes.now in
+    let l = a.counters.now in
+    let k = made s p (length l) (first s n φ p l) 0 c.lengths-room.ensures c.shared.ensures c.shared-2.ensures c.in_ok-check_search.ensures in
+    let r = ready s n φ p l k in
+    let zeros : c.fill.new.self ≡ replicate (length l) 0 = search rules in
+    record { allowed = r.allowed; picture = r.picture; counters = counters_ready s l r.enough zeros }
 
-pub returns-then-not-is_picture : goal.returns-then-not-is_picture
+pub returns-clause-gives : goal.returns-clause-gives
 unfolding search_in_place
-returns-then-not-is_picture c =
+returns-clause-gives c =
     let a = c.args in
-    (decision a.settings a.rounds a.choices.now (triple a.c1.now a.c2.now a.c3.now) a.counters.now c.places.ensures c.counters_refusal-first.ensures c.search_refusal-refused.ensures).last c.if-refused-ne0.false (sym c.is_picture.ensures ∙ c.if-not-is_picture.true)
-
-pub search_picture-won-requires : goal.search_picture-won-requires
-search_picture-won-requires c =
-    let a = c.args in
-    record {
-      picture_ready = ready a.settings a.rounds a.choices.now (triple a.c1.now a.c2.now a.c3.now) a.counters.now c.places.ensures c.counters_refusal-first.ensures c.search_refusal-refused.ensures c.if-refused-ne0.false (sym c.is_picture.ensures ∙ c.if-not-is_picture.false) c.clear_counters.ensures;
-      choices_len = eqb→eq _ _ (past a.settings a.rounds a.choices.now (triple a.c1.now a.c2.now a.c3.now) a.counters.now c.places.ensures c.counters_refusal-first.ensures c.search_refusal-refused.ensures c.if-refused-ne0.false).settings.choices_fit;
-    }
-
-pub returns : goal.returns
-unfolding search_in_place
-returns c =
-    let a = c.args in
-    let f = c.search_picture-won.ensures in
-    success c.found.ensures
-    ((decision a.settings a.rounds a.choices.now (triple a.c1.now a.c2.now a.c3.now) a.counters.now c.places.ensures c.counters_refusal-first.ensures c.search_refusal-refused.ensures).succeeds c.if-refused-ne0.false (sym c.is_picture.ensures ∙ c.if-not-is_picture.false) _ _
-    (answered (past a.settings a.rounds a.choices.now (triple a.c1.now a.c2.now a.c3.now) a.counters.now c.places.ensures c.counters_refusal-first.ensures c.search_refusal-refused.ensures c.if-refused-ne0.false) _ _ f.found.estimate ∙ ap (estimated a.settings (triple a.c1.now a.c2.now a.c3.now)) f.choices)
-    (λ o. lent (f.choices o) (f.found.planes o) ((f.found.counters ∙ c.clear_counters.ensures) o)))
+    let s = a.settings in
+    let n = a.rounds in
+    let φ = a.choices.now in
+    let p = samples_mut a.planes.now in
+    let l = a.counters.now in
+    let k = made s p (length l) (first s n φ p l) 0 c.lengths-room.ensures c.shared.ensures c.shared-2.ensures c.in_ok-check_search.ensures in
+    let f = c.search_picture-won.ensures.found in
+    let zeros : c.fill.new.self ≡ replicate (length l) 0 = search rules in
+    let room = ap (λ (r : Triple ℕ). record { estimate = c.search_picture-won.result; samples = counted r.c1 }) (c.lengths-room.ensures ∙ ap lengths c.shared.ensures) in
+    let e = answered _ _ (ready s n φ p l k).picture f.found.estimate (c.found.ensures ∙ room) ∙ ap (estimated s p) f.choices in
+    (λ i. outcome_of (Ok (e i)) (lent (f.choices i) (f.found.planes i) ((f.found.counters ∙ zeros) i)))
+    ∙ ok_outcome (tests s n φ p l) (estimated s p (winners s p n)) (after s n φ p l) (before s n φ p l) (k ∙ same s n φ p l)

@@ -1,10 +1,7 @@
 use mathlib.Core.Path.{◌≡◌}
-use Prim.Native.Nat.{◌-◌, ◌≤◌}
+use Prim.Native.Nat.{◌-◌}
 use Rattle.stage.specs.Pixmap.{depth_among, depth_of}
 use Rattle.pixmap.proofs.depth_of.Given as goal
 
 abbrev pub invariant-loop-b : goal.invariant-loop-b
-invariant-loop-b l = (2 ≤ l.b) × (l.b ≤ 17) × (depth_among (17 - l.b) l.b l.maxval ≡ depth_of l.maxval)
-
-abbrev pub decreases-loop-b : goal.decreases-loop-b
-decreases-loop-b l = 17 - l.b
+invariant-loop-b l = depth_among (17 - l.b) l.b l.maxval ≡ depth_of l.maxval

@@ -1,99 +1,76 @@
-use mathlib.Core.Path.{◌≡◌, sym, ap, ◌∙◌}
-use mathlib.Core.Bool.{Bool, true, cond}
-use mathlib.Core.List.{List, [], ◌∷◌, ◌++◌}
+use mathlib.Core.Path.{◌≡◌, ap, ◌∙◌}
+use mathlib.Core.Bool.{Bool}
+use mathlib.Core.List.{List}
 use Prim.Native.Nat.{ℕ}
-use lib.Dec.{eqb}
 use lib.ListN.{length}
-use lib.Seq.{length-take-le}
+use Rattle.std.specs.Prelude.{Ok}
+use Rattle.std.proofs.lemmas.Result.{err_from_is_err_and}
 use Rattle.stage.specs.declared.Settings.{Settings}
-use Rattle.stage.specs.declared.Plane.{Plane}
-use Rattle.stage.specs.declared.Plane.TheVariants.{C2, C3}
-use Rattle.stage.specs.declared.Bands.TheVariants.{One}
-use Rattle.stage.specs.Answers.{Test, ◌else◌, refusal, between}
-use Rattle.stage.specs.Planes.{Planes, triple, get}
-use Rattle.stage.specs.Steps.{steps, places}
-use Rattle.stage.specs.Transform.{count_fits, lengths, is_picture}
-use Rattle.stage.specs.Search.{cleared_scratch, scratch_fits, scratch_tests, estimated, winners, search_call}
-use Rattle.stage.proofs.Answers.{holds_append, Decides, decides}
-use Rattle.stage.proofs.Triples.{each_plane}
-use Rattle.search.specs.Calls.{lent, scratch_of}
-use Rattle.search.specs.Copies.{Prepared}
-use Rattle.search.proofs.Calls.{search_refused, success, Passed, passed, Work, room, inside, ready, answered, won, left}
+use Rattle.stage.specs.declared.Triple.{Triple}
+use Rattle.stage.specs.Answers.{Test, refusal, number_of, outcome_of}
+use Rattle.stage.specs.Planes.{Planes, samples, samples_mut}
+use Rattle.stage.specs.Transform.{lengths}
+use Rattle.stage.specs.Search.{Lent, cleared_scratch, scratch_fits, estimated, winners, search_call}
+use Rattle.stage.proofs.Answers.{err_outcome, ok_outcome}
+use Rattle.search.specs.Calls.{scratch_of, lent, search_tests}
+use Rattle.search.proofs.Calls.{search_ready, answered}
 use Rattle.search.proofs.search.Goals as goal
 
-module _ (s : Settings) (rounds : ℕ) (φ : List ℕ) (p t : Planes) (counters : List ℕ) where
-  abbrev fit : Bool
-  fit = count_fits One s (length φ)
-
+module _ (s : Settings) (rounds : ℕ) (φ : List ℕ) (p t : Planes) (l : List ℕ) where
   abbrev fits : Bool
-  fits = scratch_fits s (lengths t) (length counters)
+  fits = scratch_fits s (lengths t) (length l)
 
   abbrev tests : Bool → List Test
-  tests b = scratch_tests s b (lengths p) fits
+  tests b = search_tests s rounds (length φ) p b
 
-  abbrev last : List Test
-  last = (between 1 4 rounds else 10) ∷ []
+  -- the tests, of trial planes that are lent on to be read
+  made : {r : Triple ℕ} {u : Planes} (n : ℕ) → r ≡ lengths u → u ≡ t → n ≡ refusal (tests (scratch_fits s r (length l))) → n ≡ refusal (tests fits)
+  made n e f k = k ∙ ap (λ (r : Triple ℕ). refusal (tests (scratch_fits s r (length l)))) (e ∙ ap lengths f)
 
-  module _ {k m n : ℕ} (f : k ≡ places (steps s.transform)) (e : m ≡ refusal (tests (eqb (length φ) k))) (g : n ≡ cond (eqb m 0) (cond (between 1 4 rounds) 0 10) m) where
-    decision : Decides (tests fit ++ last) (is_picture s p) 11 (estimated s p (winners s p rounds)) (record { choices = winners s p rounds; scratch = cleared_scratch (scratch_of t counters) }) (lent φ t counters) n
-    decision =
-        decides (tests fit ++ last) _ 11 _ _ _ (tt, (tt, (tt, (tt, (tt, (tt, (tt, (tt, (tt, (tt, tt)))))))))) n
-        (search_refused s fit (lengths p) fits rounds (e ∙ ap (λ (n : ℕ). refusal (tests (eqb (length φ) n))) f) g)
+  -- what is lent, and what success leaves
+  abbrev before : Lent
+  before = lent φ t l
 
-    past : n ≡ 0 → Passed s fit p t counters
-    past z = passed s fit p t counters ((holds_append (tests fit) last).0 (decision.passed z)).0
+  abbrev after : Lent
+  after = record { choices = winners s p rounds; scratch = cleared_scratch (scratch_of t l) }
 
-    -- with the picture copied to the trial planes, which are then x
-    work : n ≡ 0 → is_picture s p ≡ true → {x : Planes} {l : List ℕ} → Prepared p x counters l → length x.c1 ≡ length t.c1 → length x.c2 ≡ length t.c2 → length x.c3 ≡ length t.c3
-        → Work s fit p t counters x l
-    work z picture {x} {l} prepared e1 e2 e3 = record {
-      past = past z;
-      picture = picture;
-      prepared = prepared;
-      same = each_plane (λ (c : Plane). length (get x c) ≡ length (get t c)) e1 e2 e3;
-    }
-
-pub returns-then-refused-ne0 : goal.returns-then-refused-ne0
+pub returns-in_err-check_search-clause-gives : goal.returns-in_err-check_search-clause-gives
 unfolding search_call
-returns-then-refused-ne0 c =
+returns-in_err-check_search-clause-gives c =
     let a = c.args in
-    (decision a.settings a.rounds a.choices.now (triple a.c1.now a.c2.now a.c3.now) (triple a.t1.now a.t2.now a.t3.now) a.counters.now c.places.ensures c.scratch_refusal-first.ensures c.search_refusal-refused.ensures).first c.if-refused-ne0.true
+    let s = a.settings in
+    let n = a.rounds in
+    let φ = a.choices.now in
+    let p = samples a.picture in
+    let t = samples_mut a.trials.now in
+    let l = a.counters.now in
+    let r = err_from_is_err_and c.from_residual.result c.from_residual.ensures.1 in
+    rw (r.1, r.2) (err_outcome (tests s n φ p t l (fits s n φ p t l)) (estimated s p (winners s p n)) (after s n φ p t l) (before s n φ p t l) c.in_err-check_search.field-0.0
+    (made s n φ p t l (number_of c.in_err-check_search.field-0.0) c.lengths-room.ensures c.shared.ensures c.in_err-check_search.ensures))
 
-pub is_picture-requires : goal.is_picture-requires
-is_picture-requires c = let a = c.args in (past a.settings a.rounds a.choices.now (triple a.c1.now a.c2.now a.c3.now) (triple a.t1.now a.t2.now a.t3.now) a.counters.now c.places.ensures c.scratch_refusal-first.ensures c.search_refusal-refused.ensures c.if-refused-ne0.false).settings.allowed
+pub search_copy-won-requires-clause-ready : goal.search_copy-won-requires-clause-ready
+search_copy-won-requires-clause-ready c =
+    let a = c.args in
+    let s = a.settings in
+    let n = a.rounds in
+    let φ = a.choices.now in
+    let p = samples a.picture in
+    let t = samples_mut a.trials.now in
+    let l = a.counters.now in
+    search_ready s n (length φ) p t l (made s n φ p t l 0 c.lengths-room.ensures c.shared.ensures c.in_ok-check_search.ensures)
 
-pub returns-then-not-is_picture : goal.returns-then-not-is_picture
+pub returns-clause-gives : goal.returns-clause-gives
 unfolding search_call
-returns-then-not-is_picture c =
+returns-clause-gives c =
     let a = c.args in
-    (decision a.settings a.rounds a.choices.now (triple a.c1.now a.c2.now a.c3.now) (triple a.t1.now a.t2.now a.t3.now) a.counters.now c.places.ensures c.scratch_refusal-first.ensures c.search_refusal-refused.ensures).last c.if-refused-ne0.false (sym c.is_picture.ensures ∙ c.if-not-is_picture.true)
-
-pub prepare-requires : goal.prepare-requires
-prepare-requires c = let a = c.args in room (past a.settings a.rounds a.choices.now (triple a.c1.now a.c2.now a.c3.now) (triple a.t1.now a.t2.now a.t3.now) a.counters.now c.places.ensures c.scratch_refusal-first.ensures c.search_refusal-refused.ensures c.if-refused-ne0.false)
-
-pub slice_bounds-search_picture-end-4 : goal.slice_bounds-search_picture-end-4
-slice_bounds-search_picture-end-4 c =
-    let a = c.args in
-    let w = work a.settings a.rounds a.choices.now (triple a.c1.now a.c2.now a.c3.now) (triple a.t1.now a.t2.now a.t3.now) a.counters.now c.places.ensures c.scratch_refusal-first.ensures c.search_refusal-refused.ensures c.if-refused-ne0.false (sym c.is_picture.ensures ∙ c.if-not-is_picture.false) c.prepare.ensures c.prepare.auto.t1 c.prepare.auto.t2 c.prepare.auto.t3 in
-    sym (length-take-le _ _ (inside w C2))
-
-pub slice_bounds-search_picture-end-6 : goal.slice_bounds-search_picture-end-6
-slice_bounds-search_picture-end-6 c =
-    let a = c.args in
-    let w = work a.settings a.rounds a.choices.now (triple a.c1.now a.c2.now a.c3.now) (triple a.t1.now a.t2.now a.t3.now) a.counters.now c.places.ensures c.scratch_refusal-first.ensures c.search_refusal-refused.ensures c.if-refused-ne0.false (sym c.is_picture.ensures ∙ c.if-not-is_picture.false) c.prepare.ensures c.prepare.auto.t1 c.prepare.auto.t2 c.prepare.auto.t3 in
-    sym (length-take-le _ _ (inside w C3))
-
-pub search_picture-won-requires-clause-picture_ready : goal.search_picture-won-requires-clause-picture_ready
-search_picture-won-requires-clause-picture_ready c = let a = c.args in ready (work a.settings a.rounds a.choices.now (triple a.c1.now a.c2.now a.c3.now) (triple a.t1.now a.t2.now a.t3.now) a.counters.now c.places.ensures c.scratch_refusal-first.ensures c.search_refusal-refused.ensures c.if-refused-ne0.false (sym c.is_picture.ensures ∙ c.if-not-is_picture.false) c.prepare.ensures c.prepare.auto.t1 c.prepare.auto.t2 c.prepare.auto.t3)
-
-pub returns : goal.returns
-unfolding search_call
-returns c =
-    let a = c.args in
-    let w = work a.settings a.rounds a.choices.now (triple a.c1.now a.c2.now a.c3.now) (triple a.t1.now a.t2.now a.t3.now) a.counters.now c.places.ensures c.scratch_refusal-first.ensures c.search_refusal-refused.ensures c.if-refused-ne0.false (sym c.is_picture.ensures ∙ c.if-not-is_picture.false) c.prepare.ensures c.prepare.auto.t1 c.prepare.auto.t2 c.prepare.auto.t3 in
-    let f = c.search_picture-won.ensures in
-    let φ = won w a.rounds _ f.choices in
-    let m = left w _ _ _ (λ d. ap (λ (y : Planes). length (get y d)) f.found.planes) f.found.counters c.clear_planes.ensures in
-    success c.found.ensures
-    ((decision a.settings a.rounds a.choices.now (triple a.c1.now a.c2.now a.c3.now) (triple a.t1.now a.t2.now a.t3.now) a.counters.now c.places.ensures c.scratch_refusal-first.ensures c.search_refusal-refused.ensures).succeeds c.if-refused-ne0.false w.picture _ _
-    (answered w _ _ f.found.estimate ∙ ap (estimated a.settings (triple a.c1.now a.c2.now a.c3.now)) φ) (λ i. record { choices = φ i; scratch = m i }))
+    let s = a.settings in
+    let n = a.rounds in
+    let φ = a.choices.now in
+    let p = samples a.picture in
+    let t = samples_mut a.trials.now in
+    let l = a.counters.now in
+    let k = made s n φ p t l 0 c.lengths-room.ensures c.shared.ensures c.in_ok-check_search.ensures in
+    let f = c.search_copy-won.ensures in
+    let e = answered _ _ (search_ready s n (length φ) p t l k).picture f.estimate c.found.ensures ∙ ap (estimated s p) f.choices in
+    (λ i. outcome_of (Ok (e i)) (record { choices = f.choices i; scratch = f.cleared i }))
+    ∙ ok_outcome (tests s n φ p t l (fits s n φ p t l)) (estimated s p (winners s p n)) (after s n φ p t l) (before s n φ p t l) k

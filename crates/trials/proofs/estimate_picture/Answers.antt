@@ -4,9 +4,11 @@ use mathlib.Core.List.{List}
 use Prim.Native.Nat.{ℕ}
 use lib.ListN.{length}
 use Rattle.stage.specs.declared.Settings.{Settings}
-use Rattle.stage.specs.Planes.{Planes}
+use borrow.Author.Rules.{rules}
+use Rattle.stage.specs.Planes.{Planes, samples_mut}
 use Rattle.stage.specs.Ranges.{widest}
 use Rattle.estimate.specs.Counting.{Counters}
+use Rattle.trials.specs.declared.trial.Trial.{Trial}
 use Rattle.trials.specs.Trials.{TrialFound}
 use Rattle.trials.specs.Searches.{EstimateFound}
 use Rattle.trials.proofs.Rounds.{zero_same, trial_first, all_steps}
@@ -20,5 +22,21 @@ whole {s} {u} {p} {q} {φ} z f e = record {
   counters = zero_same z f.counters e;
 }
 
-pub returns : goal.returns
-returns c = whole c.requires.picture_ready.counters c.trial.ensures (c.trial.auto.counters ∙ c.base_estimate-base.auto.counters)
+-- what is lent, as the trial leaves it
+left : {s : Settings} {u : Bool} {p : Planes} {φ l m' : List ℕ} {r : ℕ} {q' : Planes} (t : Trial) → EstimateFound s u p l φ r (samples_mut t.planes.now) t.counters.now
+    → q' ≡ samples_mut t.planes.now → m' ≡ t.counters.now → EstimateFound s u p l φ r q' m'
+left t f e g = rw (e, g) f
+
+pub returns-then-undone-clause-found : goal.returns-then-undone-clause-found
+returns-then-undone-clause-found c =
+    let b = c.base_estimate-base.ensures in
+    let t = c.estimate.ensures in
+    let f = rw (b.same.settings, b.planes) at t.found in
+    rw c.if-undone.true (left c.estimate.new.self (whole c.requires.picture_ready.counters f (t.same.long ∙ b.same.long)) (search rules) (search rules))
+
+pub returns-else-undone-clause-found : goal.returns-else-undone-clause-found
+returns-else-undone-clause-found c =
+    let b = c.base_estimate-base.ensures in
+    let t = c.finished_estimate.ensures in
+    let f = rw (b.same.settings, b.planes) at t.found in
+    rw c.if-undone.false (left c.finished_estimate.new.self (whole c.requires.picture_ready.counters f (t.same.long ∙ b.same.long)) (search rules) (search rules))

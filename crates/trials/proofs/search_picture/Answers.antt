@@ -2,9 +2,11 @@ use mathlib.Core.Path.{◌≡◌, ap, ◌∙◌}
 use mathlib.Core.Bool.{true}
 use mathlib.Core.List.{List}
 use Prim.Native.Nat.{ℕ}
+use borrow.Author.Rules.{rules}
 use lib.ListN.{length, replicate}
 use Rattle.stage.specs.declared.Settings.{Settings}
-use Rattle.stage.specs.Planes.{Planes}
+use Rattle.trials.specs.declared.trial.Trial.{Trial}
+use Rattle.stage.specs.Planes.{Planes, samples_mut}
 use Rattle.stage.specs.Steps.{steps, places}
 use Rattle.stage.specs.Ranges.{widest}
 use Rattle.stage.specs.Search.{rounds, choices_estimate}
@@ -27,7 +29,15 @@ whole {s} {n} {e} {r} {p} {q} {q'} φ {ψ} {χ} z h zeros f g k = record {
   };
 }
 
-pub returns : goal.returns
-returns c =
+-- what is lent, as the rounds leave it
+left : {s : Settings} {n : ℕ} {p : Planes} {φ l m' : List ℕ} {r : ℕ} {q' : Planes} (t : Trial) → SearchFound s n p l r φ (samples_mut t.planes.now) t.counters.now
+    → q' ≡ samples_mut t.planes.now → m' ≡ t.counters.now → SearchFound s n p l r φ q' m'
+left t f e g = rw (e, g) f
+
+pub returns-clause-found : goal.returns-clause-found
+returns-clause-found c =
     let p = c.requires in
-    whole c.args.choices.now p.picture_ready.counters p.choices_len c.clear_choices.ensures c.estimate_picture-e.ensures c.rounds.ensures (c.rounds.auto.counters ∙ c.estimate_picture-e.auto.counters)
+    let e = c.estimate_picture-e in
+    left c.rounds.new.self
+    (whole c.args.choices.now p.picture_ready.counters p.choices_len (search rules) e.ensures.found c.rounds.ensures.done (c.rounds.ensures.same.long ∙ e.auto.counters))
+    (search rules) (search rules)

@@ -5,7 +5,6 @@ use native.Mathlib.Omega.{arith}
 use native.Mathlib.Nat.{mod-lt, zero-mod, zero-mul}
 use lib.IntN.{ℤ}
 use lib.ListN.{length, length-set}
-use borrow.Author.Rules.{rules}
 use Rattle.stage.specs.Estimate.{counted, counted_index, residual, counted_residual}
 use Rattle.stage.proofs.Counting.{counted_most, counted_rule}
 use Rattle.estimate.specs.Counting.{bin, Countable}
@@ -14,7 +13,7 @@ use Rattle.estimate.proofs.Occurrences.{occurrences_none, occurrences_more, coun
 use Rattle.estimate.proofs.CountedIndices.{index_is, row_is, column_is, next_column, holds_none, holds_more}
 use Rattle.estimate.proofs.residual.count.Goals as goal
 
--- this turn's index is that of the counted sample, it is inside, and there is room for the number of its counter
+-- this turn's index is that of the counted sample, it is inside, and a counter has room for one more
 record Turn (a : List ℤ) (j at : ℕ) : Type 0 where
   index : at / 4096 ≡ counted_index (length a) j
   inside : at / 4096 < length a
@@ -31,82 +30,71 @@ turn {j} {a} p e s i h =
 most : {w d x : ℕ} {a : List ℤ} → Countable w d a → (i : ℕ) → x ≡ bin d (residual w a i) → x ≤ 2 * d
 most {w} {d} {a} p i e = rw e (bin_most d _ (within_residual w a i p.range))
 
-pub loop-j-init : goal.loop-j-init
-loop-j-init c =
-    let s = c.args in
-    let e = zero-mul c.spacing-every.result in
-    let row = s.width * 4096 in
+pub loop-slot-init : goal.loop-slot-init
+loop-slot-init c =
+    let e = zero-mul c.max-every.result in
+    let row = c.args.width * 4096 in
     record {
-      turns = search rules;
       index = sym e;
       column = sym (ap (λ (x : ℕ). x % row) e ∙ zero-mod row);
-      room = c.requires.bins_len;
       long = refl;
       found = holds_none _ _;
       counts = occurrences_none c.requires.counters.zero;
     }
 
-pub bin-x-requires : goal.bin-x-requires
-bin-x-requires c =
-    let l = c.loop-j in
+pub bin-x-requires-clause-inside : goal.bin-x-requires-clause-inside
+bin-x-requires-clause-inside c =
+    let l = c.loop-slot in
     let w = c.args.width in
     let p = c.requires.countable in
     record {
-      countable = p;
-      inside = record {
-        inside = (turn p c.requires.n_value c.spacing-every.ensures l.invariant.index c.loop-j-test.true).inside;
-        row = row_is w l.at;
-        column = column_is w (l.j * c.spacing-every.result) p.across l.invariant.index l.invariant.column;
-      };
+      inside = (turn p c.requires.n_value c.max-every.ensures l.invariant.index c.loop-slot-test.true).inside;
+      row = row_is w l.at;
+      column = column_is w (l.slot-index * c.max-every.result) p.across l.invariant.index l.invariant.column;
     }
-
-pub bounds-bins-j : goal.bounds-bins-j
-bounds-bins-j c = (turn c.requires.countable c.requires.n_value c.spacing-every.ensures c.loop-j.invariant.index c.loop-j-test.true).room
 
 -- there is a counter of that number
 pub bounds-counters-x : goal.bounds-counters-x
-bounds-counters-x c = omega (arith, most c.requires.countable _ c.bin-x.ensures, c.requires.counters.enough, c.loop-j.invariant.long)
+bounds-counters-x c = omega (arith, most c.requires.countable _ c.bin-x.ensures, c.requires.counters.enough, c.loop-slot.invariant.long)
 
 pub overflow_add-counters : goal.overflow_add-counters
 overflow_add-counters c =
-    let l = c.loop-j in
-    let t = turn c.requires.countable c.requires.n_value c.spacing-every.ensures l.invariant.index c.loop-j-test.true in
+    let l = c.loop-slot in
+    let t = turn c.requires.countable c.requires.n_value c.max-every.ensures l.invariant.index c.loop-slot-test.true in
     record { fits = omega (arith, counter_le l.invariant.counts c.bin-x.result, t.room) }
 
-pub bounds-counters-x-in-loop-j : goal.bounds-counters-x-in-loop-j
-bounds-counters-x-in-loop-j c = omega (arith, most c.requires.countable _ c.bin-x.ensures, c.requires.counters.enough, c.loop-j.invariant.long)
+pub bounds-counters-x-in-loop-slot : goal.bounds-counters-x-in-loop-slot
+bounds-counters-x-in-loop-slot c = omega (arith, most c.requires.countable _ c.bin-x.ensures, c.requires.counters.enough, c.loop-slot.invariant.long)
 
 pub overflow_add-at : goal.overflow_add-at
 overflow_add-at c =
-    let t = turn c.requires.countable c.requires.n_value c.spacing-every.ensures c.loop-j.invariant.index c.loop-j-test.true in
-    record { fits = omega (arith, t.inside, c.requires.countable.most, c.spacing-every.ensures) }
+    let t = turn c.requires.countable c.requires.n_value c.max-every.ensures c.loop-slot.invariant.index c.loop-slot-test.true in
+    record { fits = omega (arith, t.inside, c.requires.countable.most, c.max-every.ensures) }
 
 pub add_modulo-across-requires : goal.add_modulo-across-requires
 add_modulo-across-requires c =
     let p = c.requires.countable in
     -- a row in 4096ths is not empty
     let some : 0 < c.args.width * 4096 = omega (arith, p.across) in
-    record { m_bound = omega (arith, p.narrow); x_lt_m = (rw c.loop-j.invariant.column (mod-lt _ some), mod-lt _ some) }
+    record { m_bound = omega (arith, p.narrow); x_lt_m = (rw c.loop-slot.invariant.column (mod-lt _ some), mod-lt _ some) }
 
-pub loop-j-preserved : goal.loop-j-preserved
-loop-j-preserved c =
+pub loop-slot-preserved : goal.loop-slot-preserved
+loop-slot-preserved c =
     let s = c.args in
-    let l = c.loop-j in
-    let t = turn c.requires.countable c.requires.n_value c.spacing-every.ensures l.invariant.index c.loop-j-test.true in
+    let l = c.loop-slot in
+    let t = turn c.requires.countable c.requires.n_value c.max-every.ensures l.invariant.index c.loop-slot-test.true in
     let there : c.bin-x.result < length l.counters = omega (arith, most c.requires.countable _ c.bin-x.ensures, c.requires.counters.enough, l.invariant.long) in
-    let e : c.bin-x.result ≡ bin s.d (counted_residual s.width s.plane.now l.j) = rw (← t.index) c.bin-x.ensures in
+    let e : c.bin-x.result ≡ bin s.d (counted_residual s.width s.plane.now l.slot-index) = rw (← t.index) c.bin-x.ensures in
     record {
-      turns = omega (arith, c.loop-j-test.true);
       index = omega (arith, l.invariant.index);
-      column = c.add_modulo-across.ensures ∙ next_column l.j c.spacing-every.result (s.width * 4096) l.invariant.column;
-      room = simp length-set l.invariant.room;
+      column = c.add_modulo-across.ensures ∙ next_column l.slot-index c.max-every.result (s.width * 4096) l.invariant.column;
       long = simp length-set l.invariant.long;
-      found = holds_more l.invariant.found e (omega (arith, t.room, l.invariant.room));
+      found = holds_more l.invariant.found e (omega (arith, l.auto.bins));
       counts = occurrences_more l.invariant.counts e there;
     }
 
 pub returns : goal.returns
 returns c =
-    let l = c.loop-j in
-    let e : l.j ≡ c.args.n = omega (arith, l.invariant.turns, c.loop-j-test.false) in
+    let l = c.loop-slot in
+    let e : l.slot-index ≡ length l.bins = omega (arith, l.auto.bins) in
     record { holds = rw e at l.invariant.found; occurrences = rw e at l.invariant.counts }

@@ -1,48 +1,38 @@
 use mathlib.Core.Path.{◌≡◌, ◌∙◌}
 use native.Mathlib.Omega.{arith}
-use lib.IntN.{◌+ℤ◌, ◌-ℤ◌}
+use lib.IntN.{ℤ, ◌+ℤ◌, ◌-ℤ◌}
+use lib.Signed.{lt_z}
 use mir.Syntax.{w32}
 use mir.Val.{SFits}
 use mir.Facts.{to_z-of_z}
-use borrow.Author.Rules.{rules}
+use borrow.Table.Steps.{cases}
+use Rattle.std.specs.Int.{int_min, int_max}
+use Rattle.integers.proofs.Order.{le_z_not_lt_z}
 use Rattle.integers.proofs.Linear.{fits_lin, flat, count}
+use Rattle.stage.specs.Estimate.{med}
 use Rattle.stage.proofs.Prediction.{lesser, greater, med_median}
 use Rattle.estimate.proofs.residual.med.Goals as goal
-use Rattle.estimate.proofs.residual.med.Goals.{After-greater, After-lesser, After-lesser-2, Start}
 
-sums : (c : Start) → SFits w32 (c.args.a +ℤ c.args.e) × SFits w32 (c.args.a +ℤ c.args.e -ℤ c.args.c)
-sums c = (fits_lin (simp flat (simp count (omega arith))), fits_lin (simp flat (simp count (omega arith))))
+min_is : (x y : ℤ) → int_min x y ≡ lesser x y
+min_is x y = rw (le_z_not_lt_z x y) (cases (lt_z y x) (λ e. rw e) (λ e. rw e))
 
--- what each call gave
-low-is : (c : After-lesser) → c.lesser.result ≡ lesser c.before.args.a c.before.args.e
-low-is c = let f = c.before.ranges in simp (to_z-of_z, f.a, f.e) at c.lesser.ensures
+max_is : (x y : ℤ) → int_max x y ≡ greater x y
+max_is x y = rw (le_z_not_lt_z x y) (cases (lt_z y x) (λ e. rw e) (λ e. rw e))
 
-high_is : (c : After-greater) → c.greater.result ≡ greater c.before.before.args.a c.before.before.args.e
-high_is c = let f = c.before.before.ranges in simp (to_z-of_z, f.a, f.e) at c.greater.ensures
-
-middle_is : (c : After-lesser-2) →
-    let s = c.before.before.before.args in
-    c.lesser-2.result ≡ lesser c.before.greater.result (s.a +ℤ s.e -ℤ s.c)
-middle_is c =
-    let s = c.before.before.before in
-    let f = s.ranges in
-    let q = sums s in
-    let g : SFits w32 c.before.greater.result = search rules in
-    simp (to_z-of_z, f.a, f.e, f.c, q.0, q.1, g) at c.lesser-2.ensures
-
-pub overflow_add-a : goal.overflow_add-a
-overflow_add-a c = let k = sums c.before.before in search rules
-
-pub overflow_sub-a : goal.overflow_sub-a
-overflow_sub-a c = let k = sums c.before.before in search rules
+med_is : (a e c : ℤ) {low high middle r : ℤ} → low ≡ int_min a e → high ≡ int_max a e → middle ≡ int_min high (a +ℤ e -ℤ c) → r ≡ int_max low middle → r ≡ med a e c
+med_is a e c {low} {high} {middle} p q u v = rw (v, max_is low middle, u, min_is high (a +ℤ e -ℤ c), p, q, min_is a e, max_is a e) (med_median a e c)
 
 pub returns : goal.returns
 returns c =
-    let s = c.before.before.before.before.args in
-    let low = c.before.before.before.lesser.result in
-    let middle = c.before.lesser-2.result in
-    let x : SFits w32 low = search rules in
-    let y : SFits w32 middle = search rules in
-    let z : SFits w32 c.greater-2.result = search rules in
-    let e : c.greater-2.result ≡ greater low middle = simp (to_z-of_z, x, y) at c.greater-2.ensures in
-    to_z-of_z z ∙ e ∙ rw (middle_is c.before, high_is c.before.before, low-is c.before.before.before) (med_median s.a s.e s.c)
+    let f = c.ranges in
+    let s : SFits w32 (c.args.a +ℤ c.args.e) = fits_lin (simp flat (simp count (omega arith))) in
+    let t : SFits w32 (c.args.a +ℤ c.args.e -ℤ c.args.c) = fits_lin (simp flat (simp count (omega arith))) in
+    let low : SFits w32 c.min.result = record { sfits = c.min.type_inv } in
+    let high : SFits w32 c.max.result = record { sfits = c.max.type_inv } in
+    let middle : SFits w32 c.min-2.result = record { sfits = c.min-2.type_inv } in
+    let last : SFits w32 c.max-2.result = record { sfits = c.max-2.type_inv } in
+    to_z-of_z last ∙ med_is c.args.a c.args.e c.args.c
+    (simp (to_z-of_z, f.a, f.e) at c.min.ensures.value)
+    (simp (to_z-of_z, f.a, f.e) at c.max.ensures.value)
+    (simp (to_z-of_z, f.a, f.e, f.c, s, t, high) at c.min-2.ensures.value)
+    (simp (to_z-of_z, low, middle) at c.max-2.ensures.value)

@@ -1,38 +1,21 @@
 -- The header, then the plane's length, then the samples.
-use mathlib.Core.Path.{sym, ◌∙◌}
-use native.Mathlib.Omega.{arith}
-use borrow.Author.Tests.{leb-true, leb-false}
-use Rattle.graymap.proofs.PlanesRead.{file_refused, small_area, length_refused, samples_count, sample_refused, plane_restored}
+use Rattle.std.proofs.Common.{arith}
+use Rattle.std.proofs.lemmas.Result.{err_from_is_err_and}
+use Rattle.graymap.proofs.PlanesRead.{samples_count, sample_refused, plane_restored}
 use Rattle.graymap.proofs.reading.read_file.Goals as goal
 
-pub overflow_add-maxval : goal.overflow_add-maxval
-overflow_add-maxval c = omega (arith, c.requires.extent_most)
-
-pub parse-p-requires : goal.parse-p-requires
-parse-p-requires c = c.requires.extent_most
-
-pub returns-then-p-ne0 : goal.returns-then-p-ne0
-returns-then-p-ne0 c = file_refused c.args.range c.args.samples.now c.parse-p.ensures c.if-p-ne0.true
-
-pub overflow_mul-p : goal.overflow_mul-p
-overflow_mul-p c = record { fits = omega (arith, small_area c.args.range c.args.samples.now c.parse-p.ensures c.if-p-ne0.false) }
-
-pub returns-then-samples-p : goal.returns-then-samples-p
-returns-then-samples-p c = length_refused c.args.range c.args.samples.now c.parse-p.ensures c.if-p-ne0.false c.if-samples-p.true
-
-pub returns-then-not-all_up_to : goal.returns-then-not-all_up_to
-returns-then-not-all_up_to c =
-    sample_refused c.args.range c.args.samples.now c.parse-p.ensures c.if-p-ne0.false c.if-samples-p.false c.part_behind-rest.ensures.bytes_are
-    (leb-false _ _ (sym c.all_up_to.ensures ∙ c.if-not-all_up_to.true))
+pub returns-in_err-require-2 : goal.returns-in_err-require-2
+returns-in_err-require-2 c =
+    let a = c.args in
+    let r = err_from_is_err_and c.from_residual-in_err-require-2.result c.from_residual-in_err-require-2.ensures.1 in
+    rw (r.1, r.2) (sample_refused a.range a.file a.samples.now _ c.in_ok-p.ensures c.in_ok-require.ensures _ c.all_up_to.ensures _ c.in_err-require-2.ensures)
 
 pub fill-requires : goal.fill-requires
 fill-requires c = record {
-  enough = omega (arith, samples_count c.args.range c.args.samples.now c.parse-p.ensures c.if-p-ne0.false c.if-samples-p.false c.part_behind-rest.ensures.bytes_are);
+  enough = omega (arith, samples_count c.args.range c.args.file c.args.samples.now _ c.in_ok-p.ensures c.in_ok-require.ensures);
   within = omega arith;
   small = omega (arith, c.requires.extent_most);
 }
 
 pub returns : goal.returns
-returns c =
-    plane_restored c.args.range c.args.samples.now c.parse-p.ensures c.if-p-ne0.false c.if-samples-p.false c.part_behind-rest.ensures.bytes_are
-    (leb-true _ _ (sym c.all_up_to.ensures ∙ c.if-not-all_up_to.false)) c.fill.ensures
+returns c = plane_restored c.args.range c.args.file c.args.samples.now _ c.in_ok-p.ensures c.in_ok-require.ensures _ c.all_up_to.ensures c.in_ok-require-2.ensures c.fill.ensures

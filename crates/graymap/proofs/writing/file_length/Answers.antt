@@ -11,20 +11,6 @@ use Rattle.graymap.proofs.writing.file_length.Goals as goal
 samples_fit : (w h m : ℕ) {n : ℕ} → Measurable w h m → n ≡ sample_bytes m → n * (w * h) ≤ 134217728
 samples_fit w h m p e = rw e (bytes_fit w h m p).1
 
-pub overflow_mul-samples : goal.overflow_mul-samples
-overflow_mul-samples c = let a = c.args in let f = bytes_fit a.width a.height a.maxval c.requires in record { fits = omega (arith, f.0) }
-
-pub overflow_mul-samples-2 : goal.overflow_mul-samples-2
-overflow_mul-samples-2 c = let a = c.args in record { fits = omega (arith, samples_fit a.width a.height a.maxval c.requires c.sample_bytes.ensures) }
-
-pub overflow_cast-result : goal.overflow_cast-result
-overflow_cast-result c = let a = c.args in record { fits = omega (arith, samples_fit a.width a.height a.maxval c.requires c.sample_bytes.ensures) }
-
-pub overflow_add-result-2 : goal.overflow_add-result-2
-overflow_add-result-2 c =
-    let a = c.args in
-    omega (arith, samples_fit a.width a.height a.maxval c.requires c.sample_bytes.ensures, c.digit_count.ensures.1, c.digit_count-2.ensures.1, c.digit_count-3.ensures.1)
-
 pub returns : goal.returns
 returns c =
     let a = c.args in (

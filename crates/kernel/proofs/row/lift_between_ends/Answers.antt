@@ -1,40 +1,36 @@
-use Rattle.std.proofs.Common.{◌≡◌, arith}
-use Rattle.kernel.proofs.Segments.{segment_rest, progress_none, progress_join, progress_all}
+use Rattle.std.proofs.Common.{◌≡◌, true, ◌&&◌, refl}
+use Rattle.integers.proofs.Booleans.{both_true}
+use Rattle.integers.proofs.Changes.{changed_as}
+use Rattle.kernel.specs.declared.window.Border.{Border}
 use Rattle.kernel.proofs.row.lift_between_ends.Goals as goal
-use Rattle.kernel.proofs.row.lift_between_ends.Goals.{Then-above-below-eq2}
 
--- both rows are there
-record Both (c : Then-above-below-eq2) : Type 0 where
-  above : c.before.args.above ≡ 1
-  below : c.before.args.below ≡ 1
+-- all neighbours are there
+record All (b : Border) : Type 0 where
+  left : b.left ≡ true
+  right : b.right ≡ true
+  above : b.above ≡ true
+  below : b.below ≡ true
 
-both : (c : Then-above-below-eq2) → Both c
-both c = let t = c.if-above-below-eq2.true in record { above = omega arith; below = omega arith }
+all : (b : Border) → (b.left && b.right && b.above && b.below) ≡ true → All b
+all b e =
+    let x = both_true (b.left && b.right && b.above) b.below e in
+    let y = both_true (b.left && b.right) b.above x.0 in
+    let z = both_true b.left b.right y.0 in
+    record { left = z.0; right = z.1; above = y.1; below = x.1 }
 
-pub lift_interior-requires : goal.lift_interior-requires
-lift_interior-requires c =
-    let k = both c.before in
-    rw (k.above, k.below) at c.before.before.requires
+pub lift_many-requires : goal.lift_many-requires
+lift_many-requires c =
+    let s = c.requires in
+    let h = all c.args.window c.if-whole.true in
+    record {
+      windows = λ k p q. rw (h.left, h.right, h.above, h.below) at (s.windows k p q);
+      pass = s.pass;
+      order = s.order;
+      end = s.end;
+      changed = s.changed;
+    }
 
-pub returns-then-above-below-eq2 : goal.returns-then-above-below-eq2
-returns-then-above-below-eq2 c =
-    let k = both c.before.before.before in
-    rw (k.above, k.below) c.before.lift_interior.ensures
-
-pub loop-i-init : goal.loop-i-init
-loop-i-init c = progress_none (omega arith)
-
-pub lift_sample-requires : goal.lift_sample-requires
-lift_sample-requires c =
-    let l = c.before.before in
-    let p = l.before.before.requires in
-    record { segment = segment_rest p.segment l.loop-i.invariant.done (omega arith) (omega arith) (omega arith) (omega arith); weights = p.weights }
-
-pub loop-i-preserved : goal.loop-i-preserved
-loop-i-preserved c = progress_join c.before.before.before.before.loop-i.invariant (omega arith) (omega arith) c.before.lift_sample.ensures
-
-pub shape_of-c : goal.shape_of-c
-shape_of-c c = c.before.loop-i.invariant.done.long
-
-pub returns : goal.returns
-returns c = progress_all c.before.loop-i.invariant (omega arith)
+pub returns-then-whole : goal.returns-then-whole
+returns-then-whole c =
+    let h = all c.args.window c.if-whole.true in
+    changed_as _ _ c.lift_many.ensures refl refl (λ k z p q. rw (h.left, h.right, h.above, h.below) refl)

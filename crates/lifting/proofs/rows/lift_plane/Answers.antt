@@ -1,72 +1,37 @@
-use native.Mathlib.Omega.{arith}
-use mathlib.Core.Path.{◌≡◌, ap, ◌∙◌}
-use Rattle.stage.specs.declared.Plane.{Plane}
-use Rattle.stage.specs.declared.Plane.TheVariants.{C1, C2, C3}
-use Rattle.stage.specs.Planes.{triple, same_plane}
-use mathlib.Core.Bool.{Bool}
-use Prim.Native.Nat.{ℕ}
-use Rattle.stage.specs.declared.Settings.{Settings}
-use Rattle.stage.specs.declared.Form.{Form}
-use Rattle.kernel.specs.declared.pass.KeptPass.{KeptPass}
-use Rattle.kernel.specs.Pass.{kept_pass}
-use Rattle.lifting.specs.declared.passes.Pass.{Pass}
-use Rattle.lifting.specs.Passes.{pass_at, number, first_other}
-use Rattle.lifting.proofs.TransformPasses.{PassOf, pass_liftable, pass_changed, pass_skipped}
+use Rattle.std.proofs.Common.{arith}
+use Rattle.stage.specs.Planes.{samples_mut}
+use Rattle.lifting.specs.Passes.{pass_at}
+use Rattle.lifting.proofs.TransformPasses.{reads_second, pass_liftable, pass_skipped}
 use Rattle.lifting.proofs.rows.lift_plane.Goals as goal
 
--- the pass's numbers, where it changes plane c; d is the first other plane
-of : (κ : Form) (s : Settings) (k : ℕ) (back : Bool) (x : Pass) (n : KeptPass) (d : Plane) (b : Bool) (c : Plane) → x ≡ pass_at s.transform k
-    → n ≡ kept_pass (number back x) κ s.depths.c1 → d ≡ first_other x.changed → b ≡ same_plane x.read d → x.changed ≡ c → PassOf κ s k back x n b c
-of κ s k back x n d b c pass_is number_is other_is first_is changed_is = record {
-  pass_is = pass_is;
-  number_is = number_is;
-  first_is = first_is ∙ ap (same_plane x.read) other_is;
-  changed_is = changed_is;
-}
-
-pub returns-then-null : goal.returns-then-null
-returns-then-null c =
+pub returns-then-null-clause-rows : goal.returns-then-null-clause-rows
+returns-then-null-clause-rows c =
     let a = c.args in
-    pass_skipped a.form a.settings a.back a.filter a.from a.to (pass_at a.settings.transform a.place) (triple a.c1.now a.c2.now a.c3.now) (omega arith)
+    pass_skipped a.plan.form a.plan.settings a.back a.filter a.from a.to (pass_at a.plan.settings.transform a.place) (samples_mut a.planes.now) (omega arith)
 
 pub pass_at-x-requires : goal.pass_at-x-requires
 pass_at-x-requires c = c.requires.place
 
-pub lift_by-requires : goal.lift_by-requires
-lift_by-requires c =
-    let a = c.args in
-    pass_liftable c.requires
-    (of a.form a.settings a.place a.back c.pass_at-x.result c.kept_pass-n.result c.first_other.result c.same_plane-first.result C1 c.pass_at-x.ensures c.kept_pass-n.ensures c.first_other.ensures c.same_plane-first.ensures c.in-C1.is)
+pub lift_rows-requires : goal.lift_rows-requires
+lift_rows-requires c =
+    pass_liftable c.requires (record { pass_is = c.pass_at-x.ensures; kept_is = c.kept-n.ensures; changed_is = c.in-C1.is; read_is = c.in-C2-read.is })
 
-pub lift_by-requires-in-C2 : goal.lift_by-requires-in-C2
-lift_by-requires-in-C2 c =
-    let a = c.args in
-    pass_liftable c.requires
-    (of a.form a.settings a.place a.back c.pass_at-x.result c.kept_pass-n.result c.first_other.result c.same_plane-first.result C2 c.pass_at-x.ensures c.kept_pass-n.ensures c.first_other.ensures c.same_plane-first.ensures c.in-C2.is)
+pub lift_rows-requires-in_default : goal.lift_rows-requires-in_default
+lift_rows-requires-in_default c =
+    pass_liftable c.requires (record { pass_is = c.pass_at-x.ensures; kept_is = c.kept-n.ensures; changed_is = c.in-C1.is; read_is = reads_second _ _ c.requires.place c.pass_at-x.ensures c.in-C1.is c.in_default.not-C2 })
 
-pub lift_by-requires-in-C3 : goal.lift_by-requires-in-C3
-lift_by-requires-in-C3 c =
-    let a = c.args in
-    pass_liftable c.requires
-    (of a.form a.settings a.place a.back c.pass_at-x.result c.kept_pass-n.result c.first_other.result c.same_plane-first.result C3 c.pass_at-x.ensures c.kept_pass-n.ensures c.first_other.ensures c.same_plane-first.ensures c.in-C3.is)
+pub lift_rows-requires-in-C1-read : goal.lift_rows-requires-in-C1-read
+lift_rows-requires-in-C1-read c =
+    pass_liftable c.requires (record { pass_is = c.pass_at-x.ensures; kept_is = c.kept-n.ensures; changed_is = c.in-C2.is; read_is = c.in-C1-read.is })
 
-pub returns-in-C1 : goal.returns-in-C1
-returns-in-C1 c =
-    let a = c.args in
-    pass_changed c.requires
-    (of a.form a.settings a.place a.back c.pass_at-x.result c.kept_pass-n.result c.first_other.result c.same_plane-first.result C1 c.pass_at-x.ensures c.kept_pass-n.ensures c.first_other.ensures c.same_plane-first.ensures c.in-C1.is)
-    (λ e. omega arith) c.lift_by.ensures
+pub lift_rows-requires-in_default-read : goal.lift_rows-requires-in_default-read
+lift_rows-requires-in_default-read c =
+    pass_liftable c.requires (record { pass_is = c.pass_at-x.ensures; kept_is = c.kept-n.ensures; changed_is = c.in-C2.is; read_is = reads_second _ _ c.requires.place c.pass_at-x.ensures c.in-C2.is c.in_default-read.not-C1 })
 
-pub returns-in-C2 : goal.returns-in-C2
-returns-in-C2 c =
-    let a = c.args in
-    pass_changed c.requires
-    (of a.form a.settings a.place a.back c.pass_at-x.result c.kept_pass-n.result c.first_other.result c.same_plane-first.result C2 c.pass_at-x.ensures c.kept_pass-n.ensures c.first_other.ensures c.same_plane-first.ensures c.in-C2.is)
-    (λ e. omega arith) c.lift_by-in-C2.ensures
+pub lift_rows-requires-in-C1-read-2 : goal.lift_rows-requires-in-C1-read-2
+lift_rows-requires-in-C1-read-2 c =
+    pass_liftable c.requires (record { pass_is = c.pass_at-x.ensures; kept_is = c.kept-n.ensures; changed_is = c.in-C3.is; read_is = c.in-C1-read-2.is })
 
-pub returns-in-C3 : goal.returns-in-C3
-returns-in-C3 c =
-    let a = c.args in
-    pass_changed c.requires
-    (of a.form a.settings a.place a.back c.pass_at-x.result c.kept_pass-n.result c.first_other.result c.same_plane-first.result C3 c.pass_at-x.ensures c.kept_pass-n.ensures c.first_other.ensures c.same_plane-first.ensures c.in-C3.is)
-    (λ e. omega arith) c.lift_by-in-C3.ensures
+pub lift_rows-requires-in_default-read-2 : goal.lift_rows-requires-in_default-read-2
+lift_rows-requires-in_default-read-2 c =
+    pass_liftable c.requires (record { pass_is = c.pass_at-x.ensures; kept_is = c.kept-n.ensures; changed_is = c.in-C3.is; read_is = reads_second _ _ c.requires.place c.pass_at-x.ensures c.in-C3.is c.in_default-read-2.not-C1 })

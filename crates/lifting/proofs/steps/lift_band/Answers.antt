@@ -94,15 +94,15 @@ lift_plane-requires c = record {
   planes = c.requires.planes;
 }
 
-pub returns-then-settings-k : goal.returns-then-settings-k
-returns-then-settings-k c =
+pub returns-then-settings-k-clause-rows : goal.returns-then-settings-k-clause-rows
+returns-then-settings-k-clause-rows c =
     quarter_rows c.args.plan.form c.requires c.rows_before-from.ensures c.rows_before-to.ensures _ _ c.args.back (third c.requires c.if-settings-k.true)
     (filter_is c.requires c.places.result c.args.k _ c.places.ensures c.filter_at-f.ensures)
     (filter_is c.requires c.places.result 3 _ c.places.ensures c.filter_at-g.ensures)
     c.lift_quarter.ensures
 
-pub returns-else-settings-k : goal.returns-else-settings-k
-returns-else-settings-k c =
+pub returns-else-settings-k-clause-rows : goal.returns-else-settings-k-clause-rows
+returns-else-settings-k-clause-rows c =
     pass_rows c.args.plan.form c.requires c.rows_before-from.ensures c.rows_before-to.ensures _ c.args.back
     (filter_is c.requires c.places.result c.args.k _ c.places.ensures c.filter_at-f.ensures)
-    c.if-settings-k.false c.lift_plane.ensures
+    c.if-settings-k.false c.lift_plane.ensures.rows

@@ -12,4 +12,4 @@ overflow_mul-band c =
     search rules
 
 pub returns : goal.returns
-returns c = let a = c.before.before.args in c.lesser.ensures ∙ ap (λ (n : ℕ). min (a.band * n) a.height) c.before.band_rows.ensures.0
+returns c = let a = c.before.before.args in c.min.ensures ∙ ap (λ (n : ℕ). min (a.band * n) a.height) c.before.band_rows.ensures.0

@@ -2,7 +2,6 @@ use borrow.Author.Rules.{rules}
 use mathlib.Core.Path.{◌≡◌}
 use Prim.Native.Nat.{ℕ, ◌<◌}
 use native.Mathlib.Omega.{arith}
-use Rattle.stage.specs.declared.Plane.TheVariants.{C1, C2, C3}
 use Rattle.stage.specs.Planes.{Planes}
 use Rattle.lifting.specs.Passes.{step_at, reversed_if}
 use mathlib.Core.Bool.{Bool}
@@ -13,7 +12,7 @@ use Rattle.stage.specs.declared.Bands.{Bands}
 use Rattle.lifting.specs.Steps.{StepReady}
 use Rattle.lifting.specs.BandRows.{rows_before, BandReady, StepRows}
 use Rattle.lifting.proofs.BandRows.{band_most, rows_order}
-use Rattle.lifting.proofs.StepRows.{step_apart, rows_none, rows_more, rows_long, rows_ready, rows_done}
+use Rattle.lifting.proofs.StepRows.{step_apart, rows_none, rows_more, rows_ready, rows_done}
 use Rattle.lifting.proofs.steps.run_step.Goals as goal
 
 -- the next band
@@ -22,7 +21,7 @@ ready : {κ : Form} {β : Bands} {s : Settings} {φ : List ℕ} {k : ℕ} {back 
 ready b r u e h = record { fit = r.fit; begins = omega arith; planes = rows_ready u (omega arith) r.before r.after }
 
 pub loop-plan-init : goal.loop-plan-init
-loop-plan-init c = (omega arith, rows_none _ (omega arith))
+loop-plan-init c = (omega arith, rows_none _ (omega arith), search rules)
 
 pub rows_before-requires : goal.rows_before-requires
 rows_before-requires c = c.loop-plan.invariant.0
@@ -43,17 +42,7 @@ loop-plan-smaller c =
 pub loop-plan-preserved : goal.loop-plan-preserved
 loop-plan-preserved c =
     let m = ready c.loop-plan.band c.requires c.loop-plan.invariant.1 c.rows_before.ensures c.loop-plan-test.true in
-    (omega (arith, band_most m), rows_more c.loop-plan.invariant.1 (step_apart c.args.plan.settings.transform c.args.k c.args.back (omega (arith, c.requires.fit.last))) (rows_order m) c.lift_band.ensures)
+    (omega (arith, band_most m), rows_more c.loop-plan.invariant.1 (step_apart c.args.plan.settings.transform c.args.k c.args.back (omega (arith, c.requires.fit.last))) (rows_order m) c.lift_band.ensures.rows, search rules)
 
--- the planes keep their lengths
-pub shape_of-c1 : goal.shape_of-c1
-shape_of-c1 c = rows_long c.loop-plan.invariant.1 C1
-
-pub shape_of-c2 : goal.shape_of-c2
-shape_of-c2 c = rows_long c.loop-plan.invariant.1 C2
-
-pub shape_of-c3 : goal.shape_of-c3
-shape_of-c3 c = rows_long c.loop-plan.invariant.1 C3
-
-pub returns : goal.returns
-returns c = rows_done c.loop-plan.invariant.1 (omega (arith, c.rows_before.ensures, c.loop-plan-test.false)) c.requires.before.size
+pub returns-clause-made : goal.returns-clause-made
+returns-clause-made c = rows_done c.loop-plan.invariant.1 (omega (arith, c.rows_before.ensures, c.loop-plan-test.false)) c.requires.before.size

@@ -14,5 +14,5 @@ pub returns-then-x : goal.returns-then-x
 unfolding of_bits
 returns-then-x c = λ z u h. sample_bits c.args.x z u h
 
-pub returns : goal.returns
-returns c = λ z u h. absurd (subst T c.if-x.false (itself c.args.x _ h))
+pub returns-else-x : goal.returns-else-x
+returns-else-x c = λ z u h. absurd (subst T c.if-x.false (itself c.args.x _ h))

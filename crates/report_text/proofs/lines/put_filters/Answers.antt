@@ -1,33 +1,39 @@
--- From i on the filters remain to be written.
-use mathlib.Core.Path.{ap}
-use Prim.Native.Nat.{◌≤◌, ◌<◌}
+use mathlib.Core.Path.{refl, ap}
+use mathlib.Core.List.{List}
+use Prim.Native.Nat.{ℕ, ◌*◌, ◌≤◌, ◌<◌}
 use native.Mathlib.Omega.{arith}
-use lib.ListN.{length, length-append}
-use Rattle.report_text.proofs.Filters.{separated_more, separated_none}
+use lib.ListN.{length, get_or, length-append}
+use Rattle.report_text.specs.Text.{separated}
+use Rattle.std.proofs.Common.{◌∙◌}
+use Rattle.report_text.proofs.Filters.{separated_more, separated_none, separated_short}
 use Rattle.text.proofs.Written.{remains_all, remains_less, remains_none, remains_long}
 use Rattle.report_text.proofs.lines.put_filters.Goals as goal
 
-pub loop-i-init : goal.loop-i-init
-loop-i-init c = (omega arith, remains_all)
+-- bytes have few digits
+short : (l : List ℕ) → ((i : ℕ) → get_or l i 0 < 256) → length (separated 32 l) ≤ 4 * length l
+short l h = separated_short 32 l h
 
-pub overflow_cast-filters : goal.overflow_cast-filters
-overflow_cast-filters c = omega (arith, c.type_inv.filters c.loop-i.i)
+pub loop-filter-init : goal.loop-filter-init
+loop-filter-init c = (refl, remains_all)
 
-pub put_field-next-requires : goal.put_field-next-requires
-put_field-next-requires c =
-    let h : c.loop-i.i < length c.args.filters.now = omega arith in
-    let e = simp length-append at (ap length (separated_more c.loop-i.separator c.args.filters.now c.loop-i.i h)) in
-    omega (arith, c.loop-i.invariant.1.end_is, remains_long c.loop-i.invariant.1, e)
+pub put_field-requires : goal.put_field-requires
+put_field-requires c =
+    let h : c.loop-filter.filter-index < length c.args.filters.now = omega arith in
+    let e = simp length-append at (ap length (separated_more c.loop-filter.separator c.args.filters.now c.loop-filter.filter-index h)) in
+    omega (arith, short c.args.filters.now (λ i. omega (arith, c.type_inv.filters i)), c.requires, c.loop-filter.invariant.1.end_is, remains_long c.loop-filter.invariant.1, e)
 
-pub loop-i-preserved : goal.loop-i-preserved
-loop-i-preserved c =
-    let h : c.loop-i.i < length c.args.filters.now = omega arith in
-    (omega arith, remains_less _ (rw (separated_more c.loop-i.separator c.args.filters.now c.loop-i.i h) at c.loop-i.invariant.1) c.put_field-next.ensures)
+pub loop-filter-preserved : goal.loop-filter-preserved
+loop-filter-preserved c =
+    let h : c.loop-filter.filter-index < length c.args.filters.now = omega arith in (
+      c.put_field.ensures.same ∙ c.loop-filter.invariant.0,
+      remains_less _ (rw (separated_more c.loop-filter.separator c.args.filters.now c.loop-filter.filter-index h) at c.loop-filter.invariant.1) c.put_field.ensures.written,
+    )
 
-pub shape_of-text : goal.shape_of-text
-shape_of-text c = remains_long c.loop-i.invariant.1
+pub returns-clause-same : goal.returns-clause-same
+returns-clause-same c = c.loop-filter.invariant.0
 
-pub returns : goal.returns
-returns c =
-    let h : length c.args.filters.now ≤ c.loop-i.i = omega arith in
-    remains_none (rw (separated_none c.loop-i.separator c.args.filters.now c.loop-i.i h) at c.loop-i.invariant.1)
+pub returns-clause-written : goal.returns-clause-written
+returns-clause-written c =
+    let h : length c.args.filters.now ≤ c.loop-filter.filter-index = omega arith in
+    let w = remains_none (rw (separated_none c.loop-filter.separator c.args.filters.now c.loop-filter.filter-index h) at c.loop-filter.invariant.1) in
+    record { written = w; fits = omega (arith, short c.args.filters.now (λ i. omega (arith, c.type_inv.filters i)), w.end_is) }

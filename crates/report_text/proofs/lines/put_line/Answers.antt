@@ -1,29 +1,29 @@
--- Four pieces one behind the other; bytes have few digits.
+-- Four pieces one behind the other.
 use native.Mathlib.Omega.{arith}
 use Rattle.text.proofs.Written.{then}
 use Rattle.report_text.specs.Text.{line}
-use Rattle.report_text.proofs.Filters.{separated_short}
 use Rattle.report_text.proofs.lines.put_line.Goals as goal
 
-pub put_bytes-a-requires : goal.put_bytes-a-requires
-put_bytes-a-requires c = let s = separated_short 32 c.args.filters.now (λ i. omega (arith, c.type_inv.filters i)) in omega arith
+pub put_filters-requires : goal.put_filters-requires
+put_filters-requires c =
+    omega (arith, c.requires.fits, c.put_bytes.ensures.written.end_is, c.put_bytes.ensures.written.long_is)
 
-pub put_filters-b-requires : goal.put_filters-b-requires
-put_filters-b-requires c = let s = separated_short 32 c.args.filters.now (λ i. omega (arith, c.type_inv.filters i)) in omega arith
-
-pub put_numbers-c-requires : goal.put_numbers-c-requires
-put_numbers-c-requires c =
-    let s = separated_short 32 c.args.filters.now (λ i. omega (arith, c.type_inv.filters i)) in
-    record { fits = omega arith; some = c.requires.some }
+pub put_numbers-requires : goal.put_numbers-requires
+put_numbers-requires c =
+    record {
+      fits = omega (arith, c.requires.fits, c.put_bytes.ensures.written.end_is, c.put_filters.ensures.written.fits, (then c.put_bytes.ensures.written c.put_filters.ensures.written.written).long_is);
+      some = c.requires.some;
+    }
 
 pub put_byte-requires : goal.put_byte-requires
-put_byte-requires c = let s = separated_short 32 c.args.filters.now (λ i. omega (arith, c.type_inv.filters i)) in omega arith
+put_byte-requires c =
+    let w = then (then c.put_bytes.ensures.written c.put_filters.ensures.written.written) c.put_numbers.ensures.written.written in
+    omega (arith, c.requires.fits, c.put_bytes.ensures.written.end_is, c.put_filters.ensures.written.fits, c.put_numbers.ensures.written.fits, w.long_is)
 
-pub returns : goal.returns
+pub returns-clause-written : goal.returns-clause-written
 unfolding line
-returns c =
-    let s = separated_short 32 c.args.filters.now (λ i. omega (arith, c.type_inv.filters i)) in
+returns-clause-written c =
     record {
-      written = then (then (then c.put_bytes-a.ensures c.put_filters-b.ensures) c.put_numbers-c.ensures.written) c.put_byte.ensures;
-      fits = omega arith;
+      written = then (then (then c.put_bytes.ensures.written c.put_filters.ensures.written.written) c.put_numbers.ensures.written.written) c.put_byte.ensures.written;
+      fits = omega (arith, c.put_bytes.ensures.written.end_is, c.put_filters.ensures.written.fits, c.put_numbers.ensures.written.fits, c.put_byte.ensures.written.end_is);
     }

@@ -24,23 +24,31 @@ short e n h k = record {
   rest = numeral_short (e % n) (omega (arith, mod-le e n));
 }
 
-pub put_field-a-requires : goal.put_field-a-requires
-put_field-a-requires c = let s = short c.args.estimate c.args.samples (omega arith) (omega arith) in omega arith
-
-pub put_field-b-requires : goal.put_field-b-requires
-put_field-b-requires c = let s = short c.args.estimate c.args.samples (omega arith) (omega arith) in omega arith
-
-pub put_field-c-requires : goal.put_field-c-requires
-put_field-c-requires c = let s = short c.args.estimate c.args.samples (omega arith) (omega arith) in omega arith
-
 pub put_field-requires : goal.put_field-requires
-put_field-requires c = let s = short c.args.estimate c.args.samples (omega arith) (omega arith) in omega arith
+put_field-requires c = let s = short c.args.found.estimate c.args.found.samples (omega arith) (omega arith) in omega (arith, c.requires.fits, s.estimate)
 
-pub returns : goal.returns
+pub put_field-requires-2 : goal.put_field-requires-2
+put_field-requires-2 c =
+    let s = short c.args.found.estimate c.args.found.samples (omega arith) (omega arith) in
+    omega (arith, c.requires.fits, s.estimate, s.samples, c.put_field.ensures.written.end_is, c.put_field.ensures.written.long_is)
+
+pub put_field-requires-3 : goal.put_field-requires-3
+put_field-requires-3 c =
+    let s = short c.args.found.estimate c.args.found.samples (omega arith) (omega arith) in
+    let w = then c.put_field.ensures.written c.put_field-2.ensures.written in
+    omega (arith, c.requires.fits, s.estimate, s.samples, s.each, c.put_field.ensures.written.end_is, c.put_field-2.ensures.written.end_is, w.long_is)
+
+pub put_field-requires-4 : goal.put_field-requires-4
+put_field-requires-4 c =
+    let s = short c.args.found.estimate c.args.found.samples (omega arith) (omega arith) in
+    let w = then (then c.put_field.ensures.written c.put_field-2.ensures.written) c.put_field-3.ensures.written in
+    omega (arith, c.requires.fits, s.estimate, s.samples, s.each, s.rest, c.put_field.ensures.written.end_is, c.put_field-2.ensures.written.end_is, c.put_field-3.ensures.written.end_is, w.long_is)
+
+pub returns-clause-written : goal.returns-clause-written
 unfolding numbers
-returns c =
-    let s = short c.args.estimate c.args.samples (omega arith) (omega arith) in
+returns-clause-written c =
+    let s = short c.args.found.estimate c.args.found.samples (omega arith) (omega arith) in
     record {
-      written = then (then (then c.put_field-a.ensures c.put_field-b.ensures) c.put_field-c.ensures) c.put_field.ensures;
-      fits = omega arith;
+      written = then (then (then c.put_field.ensures.written c.put_field-2.ensures.written) c.put_field-3.ensures.written) c.put_field-4.ensures.written;
+      fits = omega (arith, s.estimate, s.samples, s.each, s.rest, c.put_field.ensures.written.end_is, c.put_field-2.ensures.written.end_is, c.put_field-3.ensures.written.end_is, c.put_field-4.ensures.written.end_is);
     }

@@ -1,37 +1,48 @@
--- What the searches found decides: the first refusal, or four lines.
-use mathlib.Core.Path.{◌≡◌, ap, ◌∙◌}
-use Prim.Native.Nat.{ℕ}
-use Rattle.stage.specs.Planes.{triple}
-use Rattle.stage.specs.Pixmap.{Header}
-use Rattle.report_text.specs.Found.{first_of}
-use Rattle.report_text.proofs.Replies.{lines_refused, lines_done, lines_room}
-use Rattle.report_text.proofs.Reports.{report_as}
+-- The first search that refuses, or four lines.
+use Rattle.std.proofs.Common.{refl}
+use Rattle.std.proofs.lemmas.Result.{err_from_is_err_and}
+use native.Mathlib.Omega.{arith}
+use Rattle.stage.specs.Planes.{samples}
+use Rattle.report_text.proofs.Replies.{found_some, first_refused, second_refused, third_refused, fourth_refused, lines_done}
 use Rattle.report_text.proofs.pixmaps.put_picture.Goals as goal
 
--- the first refusal of four
-first : (r0 r1 r2 r3 : ℕ) {m n k : ℕ} → m ≡ first_of r0 r1 → n ≡ first_of m r2 → k ≡ first_of n r3 → k ≡ first_of (first_of (first_of r0 r1) r2) r3
-first r0 r1 r2 r3 d e f = f ∙ ap (λ x. first_of x r3) (e ∙ ap (λ x. first_of x r2) d)
-
-pub put_refusal-requires : goal.put_refusal-requires
-put_refusal-requires c = c.requires
-
-pub returns-then-n-ne0 : goal.returns-then-n-ne0
-returns-then-n-ne0 c =
+pub returns-in_err-s0-clause-put : goal.returns-in_err-s0-clause-put
+returns-in_err-s0-clause-put c =
     let a = c.args in
-    let h : Header = record { width = a.width; height = a.height; depth = a.depth } in
-    let f = first c.search_with-s0.result.refusal c.search_with-s1.result.refusal c.search_with-s2.result.refusal c.search_with-s3.result.refusal c.first_of.ensures c.first_of-2.ensures c.first_of-n.ensures in
-    report_as (lines_refused h (triple a.c1.now a.c2.now a.c3.now) c.search_with-s0.ensures c.search_with-s1.ensures c.search_with-s2.ensures c.search_with-s3.ensures f c.if-n-ne0.true) c.put_refusal.ensures
+    let r = err_from_is_err_and c.from_residual.result c.from_residual.ensures.1 in
+    rw (r.1, r.2) (first_refused a.header (samples a.picture) c.in_err-s0.field-0.0 c.in_err-s0.ensures, refl, c.requires.none)
+
+pub returns-in_err-s1-clause-put : goal.returns-in_err-s1-clause-put
+returns-in_err-s1-clause-put c =
+    let a = c.args in
+    let r = err_from_is_err_and c.from_residual-in_err-s1.result c.from_residual-in_err-s1.ensures.1 in
+    rw (r.1, r.2) (second_refused a.header (samples a.picture) c.in_ok-s0.s0 c.in_ok-s0.ensures c.in_err-s1.field-0.0 c.in_err-s1.ensures, refl, c.requires.none)
+
+pub returns-in_err-s2-clause-put : goal.returns-in_err-s2-clause-put
+returns-in_err-s2-clause-put c =
+    let a = c.args in
+    let r = err_from_is_err_and c.from_residual-in_err-s2.result c.from_residual-in_err-s2.ensures.1 in
+    rw (r.1, r.2) (third_refused a.header (samples a.picture) c.in_ok-s0.s0 c.in_ok-s0.ensures c.in_ok-s1.s1 c.in_ok-s1.ensures c.in_err-s2.field-0.0 c.in_err-s2.ensures, refl, c.requires.none)
+
+pub returns-in_err-s3-clause-put : goal.returns-in_err-s3-clause-put
+returns-in_err-s3-clause-put c =
+    let a = c.args in
+    let r = err_from_is_err_and c.from_residual-in_err-s3.result c.from_residual-in_err-s3.ensures.1 in
+    rw (r.1, r.2) (fourth_refused a.header (samples a.picture) c.in_ok-s0.s0 c.in_ok-s0.ensures c.in_ok-s1.s1 c.in_ok-s1.ensures c.in_ok-s2.s2 c.in_ok-s2.ensures c.in_err-s3.field-0.0 c.in_err-s3.ensures, refl, c.requires.none)
 
 pub put_lines-requires : goal.put_lines-requires
 put_lines-requires c =
     let a = c.args in
-    let h : Header = record { width = a.width; height = a.height; depth = a.depth } in
-    let f = first c.search_with-s0.result.refusal c.search_with-s1.result.refusal c.search_with-s2.result.refusal c.search_with-s3.result.refusal c.first_of.ensures c.first_of-2.ensures c.first_of-n.ensures in
-    lines_room h (triple a.c1.now a.c2.now a.c3.now) c.search_with-s0.ensures c.search_with-s1.ensures c.search_with-s2.ensures c.search_with-s3.ensures f _ c.requires c.if-n-ne0.false
+    record {
+      empty = c.requires;
+      room = omega arith;
+      some0 = found_some a.header (samples a.picture) 0 c.in_ok-s0.s0 c.in_ok-s0.ensures;
+      some1 = found_some a.header (samples a.picture) 1 c.in_ok-s1.s1 c.in_ok-s1.ensures;
+      some2 = found_some a.header (samples a.picture) 2 c.in_ok-s2.s2 c.in_ok-s2.ensures;
+      some3 = found_some a.header (samples a.picture) 3 c.in_ok-s3.s3 c.in_ok-s3.ensures;
+    }
 
-pub returns : goal.returns
-returns c =
+pub returns-clause-put : goal.returns-clause-put
+returns-clause-put c =
     let a = c.args in
-    let h : Header = record { width = a.width; height = a.height; depth = a.depth } in
-    let f = first c.search_with-s0.result.refusal c.search_with-s1.result.refusal c.search_with-s2.result.refusal c.search_with-s3.result.refusal c.first_of.ensures c.first_of-2.ensures c.first_of-n.ensures in
-    report_as (lines_done h (triple a.c1.now a.c2.now a.c3.now) c.search_with-s0.ensures c.search_with-s1.ensures c.search_with-s2.ensures c.search_with-s3.ensures f c.if-n-ne0.false) c.put_lines.ensures
+    (_, lines_done a.header (samples a.picture) c.in_ok-s0.s0 c.in_ok-s0.ensures c.in_ok-s1.s1 c.in_ok-s1.ensures c.in_ok-s2.s2 c.in_ok-s2.ensures c.in_ok-s3.s3 c.in_ok-s3.ensures, c.put_lines.ensures.written)

@@ -4,7 +4,7 @@ use Prim.Native.Nat.{ℕ, ◌+◌}
 use native.Mathlib.Omega.{arith}
 use Rattle.std.proofs.lemmas.Bool.{true≢false}
 use Rattle.stage.specs.declared.Plane.TheVariants.{C1, C2, C3}
-use Rattle.stage.specs.Planes.{Planes, triple}
+use Rattle.stage.specs.Planes.{Planes, triple, samples}
 use Rattle.ranges.proofs.Ends.{up_to_16}
 use Rattle.trials.specs.Trials.{part_estimate}
 use Rattle.trials.proofs.trial.part_estimate.Goals as goal
@@ -20,10 +20,8 @@ none w false false false p h = refl
 pub returns-then-not-set : goal.returns-then-not-set
 returns-then-not-set c =
     let a = c.args in
-    let set = a.set in
-    let planes = triple a.c1.now a.c2.now a.c3.now in
     record {
-      answer = record { value = none a.settings.width set.c1 set.c2 set.c3 planes c.if-not-set.true; bound = omega arith };
+      answer = record { value = none a.settings.width a.set.c1 a.set.c2 a.set.c3 (samples a.planes) c.if-not-set.true; bound = omega arith };
       counters = c.requires.counters;
     }
 
@@ -31,19 +29,13 @@ pub widest-d-requires : goal.widest-d-requires
 widest-d-requires c = let a = c.requires.allowed in (up_to_16 a, a.transform_most)
 
 pub chosen_estimate-e1-requires : goal.chosen_estimate-e1-requires
-chosen_estimate-e1-requires c =
-    let p = c.requires in
-    record { plane = rw c.widest-d.ensures (p.planes C1); counters = rw c.widest-d.ensures p.counters; logarithms = p.logarithms }
+chosen_estimate-e1-requires c = let p = c.requires in record { plane = rw c.widest-d.ensures (p.planes C1); counters = rw c.widest-d.ensures p.counters }
 
 pub chosen_estimate-e2-requires : goal.chosen_estimate-e2-requires
-chosen_estimate-e2-requires c =
-    let p = c.requires in
-    record { plane = rw c.widest-d.ensures (p.planes C2); counters = c.chosen_estimate-e1.ensures.counters; logarithms = p.logarithms }
+chosen_estimate-e2-requires c = record { plane = rw c.widest-d.ensures (c.requires.planes C2); counters = c.chosen_estimate-e1.ensures.counters }
 
 pub chosen_estimate-e3-requires : goal.chosen_estimate-e3-requires
-chosen_estimate-e3-requires c =
-    let p = c.requires in
-    record { plane = rw c.widest-d.ensures (p.planes C3); counters = c.chosen_estimate-e2.ensures.counters; logarithms = p.logarithms }
+chosen_estimate-e3-requires c = record { plane = rw c.widest-d.ensures (c.requires.planes C3); counters = c.chosen_estimate-e2.ensures.counters }
 
 pub returns : goal.returns
 unfolding part_estimate

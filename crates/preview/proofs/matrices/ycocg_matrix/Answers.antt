@@ -1,7 +1,0 @@
-use lib.Ieee.{of_bits}
-use Rattle.preview.proofs.Rows.{ycocg_rows}
-use Rattle.preview.proofs.matrices.ycocg_matrix.Goals as goal
-
-pub returns : goal.returns
-unfolding of_bits
-returns c = λ s u h. ycocg_rows c.args.x s u h
