@@ -254,6 +254,17 @@ fn shown_outputs() {
     shown("examples/README.md", &previewed(file));
 }
 
+/// What the archive asks of a program that links it: `memset`, and nothing else of the C library.
+#[test]
+fn archive_alone() {
+    let archive = Path::new(env!("RULANTIP_ARCHIVE_FOLDER")).join("librulantip.a");
+    let listed = run(Command::new("nm").arg("-u").arg(&archive));
+    assert!(listed.status.success(), "{}", String::from_utf8_lossy(&listed.stderr));
+    let text = String::from_utf8(listed.stdout).unwrap();
+    let asked: Vec<&str> = text.lines().filter_map(|line| line.trim_start().strip_prefix("U ")).collect();
+    assert_eq!(asked, ["memset"]);
+}
+
 /// The header compiles alone in C and in C++ of several standards, and its macros give the most that is needed where no
 /// depth is above theirs.
 #[test]

@@ -13,8 +13,8 @@ use Rattle.text.specs.declared.reading.Number.{Number}
 use Rattle.text.specs.Numbers.{NumberAt}
 use Rattle.text.proofs.Parts.{at_place}
 use Rattle.std.specs.Borrow.{Bor}
-use Rattle.stage.specs.Decimal.{is_digit, digit_count}
-use Rattle.text.proofs.Numbers.{count_some, all_digits, rest_read}
+use Rattle.stage.specs.Decimal.{is_digit, digit_count, after_digits}
+use Rattle.text.proofs.Numbers.{count_some, all_digits, digits_end, rest_read}
 use Rattle.integers.proofs.Booleans.{and-false}
 use Rattle.pixmap.specs.declared.header_text.Field as read
 use Rattle.pixmap.specs.Parts.{PartOf}
@@ -85,6 +85,24 @@ module _ (file : List ℕ) (at b : ℕ) (t : Bool) (hb : b ≡ first (drop at fi
         let a = all_digits file s in
         let r = rest_read hn in
         record { is_formed = rw (spaced, e, digit_is n.digits (sym hn.digits_is), ne_eqb n.digits 0 some); value_is = cc; rest_is = cc }
+
+-- ---- where a field ends, of the form or not
+module _ (file : List ℕ) (at s : ℕ) (hs : drop s file ≡ after_stretch false (drop at file)) where
+  no_digit : digit_count (take (length file) (drop s file)) ≡ 0 → is_digit (first (drop s file)) ≡ false
+  no_digit z = sym (count_some (drop s file)) ∙ ap (λ (k : ℕ). not (eqb k 0)) (ap digit_count (sym (all_digits file s)) ∙ z)
+
+  pub end_unread : digit_count (take (length file) (drop s file)) ≡ 0 → drop s file ≡ (field (drop at file)).rest
+  unfolding field
+  end_unread z = sym (digits_end (drop s file) (no_digit z)) ∙ ap after_digits hs
+
+  pub end_read : (n : Number) {limit : ℕ} → NumberAt file s (length file) limit n → drop n.at file ≡ (field (drop at file)).rest
+  unfolding field
+  end_read n hn = rest_read hn ∙ ap after_digits hs
+
+pub rest_behind : (letter : ℕ) (file : List ℕ) (w h m : ℕ) → drop w file ≡ (field (drop 2 file)).rest → drop h file ≡ (field (drop w file)).rest → drop m file ≡ (field (drop h file)).rest
+    → drop 1 (drop m file) ≡ (header_text letter file).rest
+unfolding header_text
+rest_behind letter file w h m hw hh hm = ap (drop 1) (hm ∙ ap (λ (l : List ℕ). (field l).rest) (hh ∙ ap (λ (l : List ℕ). (field l).rest) hw))
 
 -- ---- a header
 module _ (letter : ℕ) (file : Bor (List ℕ)) where

@@ -1,13 +1,13 @@
--- What parsing a whole file promises: the header's numbers and the raster, the lent file's last bytes, or the first refusal.
+-- What parsing a whole file promises: the header's numbers and the raster, the lent file's last bytes; or the first refusal, and the file.
 use Rattle.std.specs.Prelude.{◌≡◌, true, List, ℕ, ◌*◌, ◌≤◌, length, Result, Ok, Err}
 use Rattle.std.specs.Borrow.{Bor}
 use Rattle.stage.specs.declared.Kind.{Kind}
 use Rattle.stage.specs.declared.Kind.TheVariants.{Pixmap, Graymap}
-use Rattle.stage.specs.declared.Refusal.{Refusal}
 use Rattle.stage.specs.Answers.{Test, refusal, number_of}
 use Rattle.stage.specs.Raster.{sample_bytes}
 use Rattle.stage.specs.Pixmap.{letter, pixel_samples, takes, header_tests, header_text, file_tests}
 use Rattle.pixmap.specs.declared.header_text.Parsed.{Parsed}
+use Rattle.pixmap.specs.declared.Unparsed.{Unparsed}
 use Rattle.pixmap.specs.Parts.{PartOf}
 
 -- a kind whose maxvals have two bytes or one
@@ -26,6 +26,11 @@ pub record Accepted (k : Kind) (file : Bor (List ℕ)) (r : Parsed) : Type 0 whe
   pub maxval_is : r.maxval ≡ (header_text (letter k) file.now).maxval
   pub raster_is : PartOf file (header_text (letter k) file.now).rest r.raster
 
-abbrev pub ParsedOf : (k : Kind) (file : Bor (List ℕ)) → Result Parsed Refusal → Type 0
+-- the first refusal, and the file: `rest` tells what stands behind its header
+pub record Refused (k : Kind) (file : Bor (List ℕ)) (e : Unparsed) : Type 0 where
+  pub refusal_is : number_of e.refusal ≡ refusal (file_tests k (header_text (letter k) file.now))
+  pub file_is : e.file ≡ file
+
+abbrev pub ParsedOf : (k : Kind) (file : Bor (List ℕ)) → Result Parsed Unparsed → Type 0
 ParsedOf k file (Ok r) = Accepted k file r
-ParsedOf k file (Err e) = number_of e ≡ refusal (file_tests k (header_text (letter k) file.now))
+ParsedOf k file (Err e) = Refused k file e

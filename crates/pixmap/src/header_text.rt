@@ -1,7 +1,7 @@
 // The text of a header. A place may lie anywhere, also behind the file's end, where the text is empty: so it
 // is a number and no slice.
-ghost use Rattle.std.specs.Prelude.{◌≡◌, false, drop};
-ghost use Rattle.stage.specs.Pixmap.{is_white, ends_comment, ends_stretch, stays_inside, after_stretch, first};
+ghost use Rattle.std.specs.Prelude.{◌≡◌, ℕ, false, drop};
+ghost use Rattle.stage.specs.Pixmap.{is_white, ends_comment, ends_stretch, stays_inside, after_stretch, first, field, header_text};
 ghost use Rattle.pixmap.specs.Parts.{PartOf};
 ghost use Rattle.pixmap.specs.HeaderFields.{FieldRead, TextRead};
 
@@ -86,9 +86,21 @@ fn read_field(file: &[u8], at: usize) -> Option<Field>
     })
 }
 
+// The place behind a field, of the form or not.
+#[tactic(auto, using(crate::proofs::HeaderFields::end_unread, crate::proofs::HeaderFields::end_read))]
+fn field_end(file: &[u8], at: usize) -> usize
+    ensures { drop result file.now ≡ (field (drop at file.now)).rest }
+{
+    let digits = skip_stretch(file, at);
+    match text::read_number(file, digits, file.len(), 0) {
+        Some(n) => n.at,
+        None => digits,
+    }
+}
+
 // What stands behind the byte at `at`: a part of the lent file, which is its last bytes.
 #[tactic(auto, using(crate::proofs::HeaderFields::part_pointer, crate::proofs::HeaderFields::part_behind))]
-fn part_behind(file: &[u8], at: usize) -> &[u8]
+pub fn part_behind(file: &[u8], at: usize) -> &[u8]
     ensures { PartOf file.entry (drop 1 (drop at file.now)) result }
 {
     if at < file.len() {
@@ -119,4 +131,15 @@ pub fn read_header(file: &[u8], letter: u8) -> Option<Parsed>
         maxval: m.value,
         raster: part_behind(file, m.at),
     })
+}
+
+// What stands behind a header, of the form or not.
+#[tactic(auto, using(crate::proofs::HeaderFields::rest_behind))]
+pub fn behind_header(file: &[u8]) -> &[u8]
+    ensures { (letter : ℕ) → PartOf file.entry (header_text letter file.now).rest result }
+{
+    let width = field_end(file, 2);
+    let height = field_end(file, width);
+    let maxval = field_end(file, height);
+    part_behind(file, maxval)
 }

@@ -4,16 +4,40 @@
 
 mod header_text;
 
-ghost use Rattle.std.specs.Prelude.{◌≡◌, ◌<◌, MatchOption};
+ghost use Rattle.std.specs.Prelude.{◌≡◌, ℕ, ◌<◌, MatchOption};
 ghost use Rattle.stage.specs.Answers.{refusal, number, reply_of, outcome_of};
 ghost use Rattle.stage.specs.Planes.{samples_mut, SameReferences};
-ghost use Rattle.stage.specs.Pixmap.{letter, pixel_samples, depth_of, takes, header_of, raster_of, planes_of};
+ghost use Rattle.stage.specs.Pixmap.{letter, pixel_samples, depth_of, takes, header_text, header_of, raster_of, planes_of};
 ghost use Rattle.pixmap.specs.Parts.{PartOf};
 ghost use Rattle.pixmap.specs.Parsed.{text_tests, Readable, ParsedOf};
 
-pub use header_text::Parsed;
+pub use header_text::{Parsed, part_behind};
 use raster::{fill, sample_bytes};
 use stage::{Header, Kind, PlanesMut, Refusal, all_equal, is_sized, require};
+
+// Why a file is refused, and the file.
+#[derive(Clone, Copy, Debug, PartialEq, Eq)]
+pub struct Unparsed<'a> {
+    pub refusal: Refusal,
+    pub file: &'a [u8],
+}
+
+impl<'a> Unparsed<'a> {
+    // What stands behind the header all the same, of the form or not. It is looked for when it is asked for: no call of the library asks.
+    pub fn rest(self) -> &'a [u8]
+        ensures { (letter : ℕ) → PartOf self.entry.file (header_text letter self.entry.file.now).rest result }
+    {
+        header_text::behind_header(self.file)
+    }
+}
+
+impl From<Unparsed<'_>> for Refusal {
+    ghost from_gives = { λ u r. r ≡ u.refusal };
+
+    fn from(unparsed: Unparsed) -> Refusal {
+        unparsed.refusal
+    }
+}
 
 // The depth of a maxval.
 #[tactic(auto, using(integers::proofs::Tests::shifted, crate::proofs::Depths::depth_found, crate::proofs::Depths::depth_next, crate::proofs::Depths::depth_none))]
@@ -69,12 +93,19 @@ fn check(p: Parsed, kind: Kind) -> Result<(), Refusal>
 
 // Reads the header of a file that is to be of this kind, and makes the tests of it.
 #[tactic(auto, using(crate::proofs::Parsing::tests_kept))]
-pub fn parse(file: &[u8], kind: Kind) -> Result<Parsed, Refusal>
+pub fn parse(file: &[u8], kind: Kind) -> Result<Parsed, Unparsed>
     requires { Readable kind }
     ensures { ParsedOf kind file.entry result }
 {
-    let p = header_text::read_header(file, letter(kind)).ok_or(Refusal::Header)?;
-    check(p, kind)?;
+    let Some(p) = header_text::read_header(file, letter(kind)) else {
+        return Err(Unparsed {
+            refusal: Refusal::Header,
+            file,
+        });
+    };
+    if let Err(refusal) = check(p, kind) {
+        return Err(Unparsed { refusal, file });
+    }
     Ok(p)
 }
 

@@ -1,4 +1,4 @@
--- No end of a range of finished planes is large: every end is at most 2^19.
+-- No end of a range of finished planes is large: each is at most 2^19 (`finished_within`), so the ranges can be added.
 use mathlib.Core.Path.{◌≡◌, subst, sym}
 use Prim.Native.Nat.{ℕ, ◌≤◌}
 use native.Mathlib.Omega.{arith}

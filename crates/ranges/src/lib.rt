@@ -10,6 +10,7 @@ ghost use Rattle.stage.specs.Ranges.{extent, finished_ranges, widest, within_ran
 ghost use Rattle.stage.specs.Settings.{settings_of, UpTo16, Allowed};
 ghost use Rattle.stage.specs.Search.{counters_needed, counters_call};
 ghost use Rattle.stage.specs.Transform.{is_picture};
+ghost use Rattle.stage.specs.Graymap.{plane_of, plane_range};
 ghost use Rattle.ranges.specs.Read.{Summable};
 
 use finished::finished_ranges;
@@ -28,6 +29,25 @@ pub fn finished_range(depths: Depths, transform: u32, plane: Plane) -> Range
         Plane::C2 => r.c2,
         Plane::C3 => r.c3,
     }
+}
+
+// The plane of number 1 or 2, and plane 3 for every other number.
+fn plane_of(number: u32) -> Plane
+    ensures { result ≡ plane_of number }
+{
+    match number {
+        1 => Plane::C1,
+        2 => Plane::C2,
+        _ => Plane::C3,
+    }
+}
+
+// The range of the plane of a number, which nobody need have tested.
+pub fn plane_range(depths: Depths, transform: u32, plane: u32) -> Range
+    requires { UpTo16 depths × (transform ≤ 3) }
+    ensures { (result ≡ plane_range depths transform plane) × Summable result }
+{
+    finished_range(depths, transform, plane_of(plane))
 }
 
 // Highest less lowest.

@@ -63,7 +63,7 @@ fn put_picture(to: &mut Writer, header: Header, picture: Planes) -> Result<(), R
     Ok(())
 }
 
-// A plane for any picture that fits a file of 8,192 bytes.
+// A plane for any picture that fits a file of 8,192 bytes: an array, since the library has no heap.
 fn new_plane() -> [i32; 2730]
     ensures { 2730 ≡ length result }
 {

@@ -3,7 +3,7 @@
 
 mod copies;
 pub mod refusals;
-mod scratch;
+pub mod scratch;
 
 ghost use Rattle.std.specs.Prelude.{◌≡◌};
 ghost use Rattle.stage.specs.Estimate.{counted};

@@ -26,7 +26,7 @@ fn planes_fit(n: usize, trials: Triple<usize>) -> bool
 }
 
 // The tests up to 9. `choices` says whether the call's own test of the choices holds.
-fn check_scratch(
+pub fn check_scratch(
     settings: Settings,
     choices: bool,
     lengths: Triple<usize>,

@@ -5,12 +5,14 @@ ghost use Rattle.search.specs.Copies.{Room, Prepared, AllCleared};
 
 use stage::{Planes, PlanesMut};
 
-// Into the first numbers of a plane that may be longer.
+// Into the first numbers of a plane that may be longer. By a loop: with the library's copy of a slice C would have to bring a `memmove`.
 fn copy_plane(target: &mut [i32], source: &[i32])
     requires { length source.now ≤ length target.old }
     ensures { take (length source.now) target.new ≡ source.now }
 {
-    target[..source.len()].copy_from_slice(source);
+    for i in 0..source.len() {
+        target[i] = source[i];
+    }
 }
 
 // The picture copied to the front of the trial planes, and the counters zero.

@@ -12,7 +12,7 @@ impl fmt::Display for Slope {
     }
 }
 
-// What a call answers.
+// What a call answers. `transform_cases` has one of its own: the two print two kinds of answers.
 #[derive(Clone, Copy)]
 pub(crate) struct AnswerText(pub(crate) Result<Estimated, Refusal>);
 

@@ -1,5 +1,6 @@
 // A refusal's number, and a test that ends a call with one.
-ghost use Rattle.std.specs.Prelude.{◌≡◌, cond, Ok, Err};
+ghost use Rattle.std.specs.Prelude.{◌≡◌, ◌++◌, cond, codes, Some, Ok, Err};
+ghost use Rattle.std.specs.Fmt.{decimal};
 ghost use Rattle.stage.specs.Answers.{number_of};
 
 use crate::Refusal;
@@ -16,6 +17,8 @@ impl Refusal {
 }
 
 impl fmt::Display for Refusal {
+    ghost output = { λ e. Some (codes "refused " ++ decimal (number_of e)) };
+
     fn fmt<W: fmt::Write>(&self, f: &mut fmt::Formatter<W>) -> fmt::Result {
         write!(f, "refused {}", self.number())
     }

@@ -2,11 +2,12 @@
 use mathlib.Core.Path.{◌≡◌, refl, sym, ap, ◌∙◌}
 use mathlib.Core.Bool.{Bool, true, false, cond, not}
 use mathlib.Core.List.{List, [], ◌∷◌}
-use Prim.Native.Nat.{ℕ, suc, ◌+◌, ◌-◌, ◌*◌, ◌≤◌, min}
+use Prim.Native.Nat.{ℕ, suc, ◌+◌, ◌-◌, ◌*◌, ◌≤◌, ◌<◌, min}
 use native.Mathlib.Numerals.{add-one}
+use native.Mathlib.Decide.{dec_lt}
 use native.Mathlib.Omega.{arith}
 use lib.Dec.{leb, eqb, eqb-suc-zero}
-use lib.ListN.{length, take, drop, length-drop}
+use lib.ListN.{length, take, drop, length-drop, drop_of_length-le}
 use lib.Seq.{take_all, drop-drop, take-take}
 use borrow.Author.Tests.{leb-true}
 use Rattle.std.specs.Char.{is_ascii_digit}
@@ -97,6 +98,14 @@ counted l = length-prefix_len is_ascii_digit l ∙ digits_front l
 count_most : (l : List ℕ) → digit_count l ≤ length l
 count_most l = rw (← digits_front l) (prefix_len-le-length is_ascii_digit l)
 
+-- a text from a place on, or from its end on where the place lies behind that
+pub part_from : (text : List ℕ) (at n : ℕ) → n ≡ min at (length text) → take (length text - n) (drop n text) ≡ drop at text
+part_from text at n e = take_all (length text - n) (drop n text) (omega (arith, length-drop n text)) ∙ go (dec_lt (length text) at)
+  where
+    go : Dec (length text < at) → drop n text ≡ drop at text
+    go (yes h) = drop_of_length-le text (omega arith) ∙ sym (drop_of_length-le text (omega arith))
+    go (no h) = ap (λ (i : ℕ). drop i text) (omega arith)
+
 -- those at a place lie within the text
 pub count_within : (text : List ℕ) (at most n : ℕ) → n ≡ length (take_while is_ascii_digit (take most (drop at text))) → n ≢ 0 → at + n ≤ length text
 count_within text at most n e h =
@@ -121,13 +130,13 @@ module _ (limit : ℕ) where
   kept n (b ∷ l) = kept_by (is_digit b) n b l refl (λ i. kept i l)
 
 pub number_read : (text : List ℕ) (at most limit n k : ℕ) → k ≡ length (take_while is_ascii_digit (take most (drop at text))) → k ≢ 0
-    → n ≡ fold (extended limit) 0 (take (at + k - at) (drop at text)) → NumberAt text at most limit (record { value = n; digits = k; at = at + k })
+    → n ≡ fold (extended limit) 0 (take k (drop at text)) → NumberAt text at most limit (record { value = n; digits = k; at = at + k })
 number_read text at most limit n k s h f =
     let l = take most (drop at text) in
     let e : k ≡ digit_count l = s ∙ counted l in
     let few : k ≤ most = omega (arith, count_most l, length-take most (drop at text)) in
-    let part : take (at + k - at) (drop at text) ≡ take (digit_count l) l =
-    ap (λ (i : ℕ). take i (drop at text)) (omega arith) ∙ sym (take-take (digit_count l) most (drop at text) (omega arith)) in
+    let part : take k (drop at text) ≡ take (digit_count l) l =
+    ap (λ (i : ℕ). take i (drop at text)) e ∙ sym (take-take (digit_count l) most (drop at text) (omega arith)) in
     let none : 0 ≡ min 0 limit = omega arith in
     record {
       value_is = f ∙ ap (λ (m : List ℕ). fold (extended limit) 0 m) part ∙ ap (λ (i : ℕ). fold (extended limit) i (take (digit_count l) l)) none ∙ kept limit 0 l;

@@ -1,11 +1,10 @@
 -- Pieces written one behind the other are one piece.
 use mathlib.Core.Path.{◌≡◌, refl, sym, ap, ◌∙◌}
-use mathlib.Core.List.{List, [], ◌∷◌, ◌++◌, append_assoc}
-use Prim.Native.Nat.{ℕ, suc, ◌+◌, ◌-◌, ◌≤◌}
+use mathlib.Core.List.{List, [], ◌∷◌, ◌++◌}
+use Prim.Native.Nat.{ℕ, suc, ◌+◌, ◌≤◌}
 use native.Mathlib.Omega.{arith}
 use lib.ListN.{length, take, drop, set, length-append}
 use lib.Seq.{sets, length-sets, sets-eq}
-use borrow.Rule.Slice.PartMut.{put_mid, post_of, Post-is}
 use Rattle.text.specs.Written.{Written}
 
 sets-append : (l p q : List ℕ) (i : ℕ) → sets (sets l i p) (i + length p) q ≡ sets l i (p ++ q)
@@ -36,17 +35,6 @@ written_front {a} {l} {p} {b} {i} {j} w e z h =
     let w0 = rw (e, z) at w in
     let j_is : j ≡ length p = omega (arith, w0.end_is) in
     written_parts w0 (omega arith) ∙ ap (λ n. p ++ drop n l) j_is
-
--- a piece that takes the place of a part of the buffer
-pub written_part : {text part piece : List ℕ} (at : ℕ) → part ≡ piece → at + length piece ≤ length text → Written text at piece (put_mid at (at + length piece - at) text part) (at + length piece)
-written_part {text} {part} {piece} at e h =
-    let end = at + length piece in
-    let t : put_mid at (end - at) text part ≡ sets text at piece =
-    ap (λ l. take at text ++ (l ++ post_of at (end - at) text)) e
-    ∙ ap (λ l. take at text ++ (piece ++ l)) (Post-is at end text (omega arith))
-    ∙ sym (append_assoc (take at text) piece (drop end text))
-    ∙ sym (sets-eq piece text at h) in
-    record { text_is = t; long_is = ap length t ∙ length-sets text at piece; end_is = refl }
 
 -- What a loop that writes a whole piece by piece keeps: to write the rest now is to write the whole at the start.
 pub record Remains (start : List ℕ) (at : ℕ) (whole text : List ℕ) (next : ℕ) (rest : List ℕ) : Type 0 where

@@ -12,12 +12,19 @@ pub struct Number {
     pub at: usize,
 }
 
-// How many digits stand at `at`, or `most` where there are more.
-fn digits_at(text: &[u8], at: usize, most: usize) -> usize
-    ensures { result ≡ length (take_while is_ascii_digit (take most (drop at text.now))) }
+// What stands at a place and behind it. A slice, since a `skip` of an iterator would go there byte by byte.
+#[tactic(auto, using(crate::proofs::Numbers::part_from))]
+fn part_at(text: &[u8], at: usize) -> &[u8]
+    ensures { result.now ≡ drop at text.now }
+{
+    &text[at.min(text.len())..]
+}
+
+// How many digits a text begins with, or `most` where there are more.
+fn digits_first(text: &[u8], most: usize) -> usize
+    ensures { result ≡ length (take_while is_ascii_digit (take most text.now)) }
 {
     text.iter()
-        .skip(at)
         .take(most)
         .take_while(|b| b.is_ascii_digit())
         .count()
@@ -43,15 +50,15 @@ fn value_of(digits: &[u8], limit: u64) -> u64
 pub fn read_number(text: &[u8], at: usize, most: usize, limit: u64) -> Option<Number>
     ensures { NumberRead text.now at most limit result }
 {
-    let digits = digits_at(text, at, most);
+    let part = part_at(text, at);
+    let digits = digits_first(part, most);
     let none = digits == 0;
     if none {
         return None;
     }
-    let end = at + digits;
     Some(Number {
-        value: value_of(&text[at..end], limit),
+        value: value_of(&part[..digits], limit),
         digits,
-        at: end,
+        at: at + digits,
     })
 }

@@ -39,12 +39,12 @@ fn are_filters(choices: &[u8]) -> bool
     choices.iter().all(|choice| *choice <= 12)
 }
 
-// Whether there are so many choices, none above 12.
+// Whether there are so many choices, none above 12. Only as many as there are to be are looked at: a refused call costs no more.
 #[tactic(auto, using(crate::proofs::Refusals::filters_all))]
 pub fn choices_fit(settings: Settings, bands: Bands, choices: &[u8]) -> bool
     ensures { result ≡ choices_fit bands settings choices.now }
 {
-    (choices.len() == choice_count(settings, bands)) & are_filters(choices)
+    choices.len() == choice_count(settings, bands) && are_filters(choices)
 }
 
 // The settings' tests. `choices` says whether the call's own test of the choices holds; `lengths` are those of the planes.

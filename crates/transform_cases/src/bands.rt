@@ -21,6 +21,7 @@ pub(crate) fn sets(k: u32, places: u32) -> [u8; 12]
     requires { (k ≤ 52) × (1 ≤ places) × (places ≤ 4) }
 {
     let mut choices = [0u8; 12];
+    // by number: a choice is made of its number
     for i in 0..12u32 {
         choices[i as usize] = choice(k / 4 + i / places, i % places);
     }

@@ -51,7 +51,7 @@ impl fmt::Display for FormText {
     }
 }
 
-// What a call answers.
+// What a call answers. `search_cases` has one of its own: the two print two kinds of answers.
 #[derive(Clone, Copy)]
 pub(crate) struct AnswerText(pub(crate) Result<(), Refusal>);
 

@@ -5,5 +5,5 @@ use Rattle.pixmap.proofs.parse.Goals as goal
 
 pub returns : goal.returns
 returns c =
-    let a : TextOf c.letter.result c.args.file c.in_ok-p.p = search rules in
-    accepted c.args.kind c.args.file _ c.requires (rw c.letter.ensures at a) c.in_ok-check.ensures
+    let a : TextOf c.letter.result c.args.file c.in-Some.p = search rules in
+    accepted c.args.kind c.args.file _ c.requires (rw c.letter.ensures at a) c.in_default-check.ensures

@@ -9,7 +9,7 @@ use Rattle.pixmap.proofs.planes.Goals as goal
 pub returns-in_err-p-clause-filled : goal.returns-in_err-p-clause-filled
 returns-in_err-p-clause-filled c =
     let r = err_from_is_err_and c.from_residual.result c.from_residual.ensures.1 in
-    rw (r.1, r.2) (planes_refused c.args.file (samples_mut c.args.planes.now) _ c.in_err-p.ensures)
+    rw (r.1, r.2) (planes_refused c.args.file (samples_mut c.args.planes.now) _ c.in_err-p.ensures.refusal_is)
 
 pub returns-in_err-require-clause-filled : goal.returns-in_err-require-clause-filled
 returns-in_err-require-clause-filled c =

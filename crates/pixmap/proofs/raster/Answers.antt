@@ -7,4 +7,4 @@ use Rattle.pixmap.proofs.raster.Goals as goal
 pub returns-in-Err : goal.returns-in-Err
 returns-in-Err c =
     let f = c.args.file in
-    record { bytes_are = part_empty f.now ∙ raster_none f.now _ c.in-Err.ensures; lent = part_pointer f.now f.ref_ptr (length f.now) (omega arith) }
+    record { bytes_are = part_empty f.now ∙ raster_none f.now _ c.in-Err.ensures.refusal_is; lent = part_pointer f.now f.ref_ptr (length f.now) (omega arith) }
