@@ -39,7 +39,7 @@ fn are_filters(choices: &[u8]) -> bool
     choices.iter().all(|choice| *choice <= 12)
 }
 
-// Whether there are so many choices, none above 12. Only as many as there are to be are looked at: a refused call costs no more.
+// Whether there are so many choices, none above 12. Where their number is another none is looked at, however many they are.
 #[tactic(auto, using(crate::proofs::Refusals::filters_all))]
 pub fn choices_fit(settings: Settings, bands: Bands, choices: &[u8]) -> bool
     ensures { result ≡ choices_fit bands settings choices.now }
